@@ -1,0 +1,14 @@
+-- Searches over the numbers below a bound: the first place that a test holds at, whether there is one, and how many.
+use Prim.Native.Nat.{ℕ, zero, suc, _+_}
+use mathlib.Core.Bool.{Bool, false, cond, _||_}
+use lib.Dec.{ltb}
+
+-- the lowest number below n that passes the test, or n where none does
+unfoldable pub lowest : (ℕ → Bool) → ℕ → ℕ
+lowest test zero = zero
+lowest test (suc n) = cond (ltb (lowest test n) n) (lowest test n) (cond (test n) n (suc n))
+
+-- some number below n passes the test
+unfoldable pub any : (ℕ → Bool) → ℕ → Bool
+any test zero = false
+any test (suc n) = test n || any test n
