@@ -1,3 +1,4 @@
 pub mod Words
 pub mod Instructions
+pub mod PostProgram
 pub mod Theorems

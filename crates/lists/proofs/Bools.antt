@@ -1,6 +1,6 @@
--- Laws of tests: what a joined test says of its parts, and picks whose two sides agree.
+-- Laws of tests: what a joined test says of its parts.
 use mathlib.Core.Path.{_≡_, refl}
-use mathlib.Core.Bool.{Bool, true, false, cond, _&&_}
+use mathlib.Core.Bool.{Bool, true, false, _&&_}
 use Prim.Native.Nat.{ℕ}
 use native.Mathlib.Omega.{arith}
 
@@ -21,7 +21,3 @@ and-four true true true s h = (refl, refl, refl, h)
 and-four true true false s h = clash (cc)
 and-four true false r s h = clash (cc)
 and-four false q r s h = clash (cc)
-
-pub cond-same : {A : Type 0} (b : Bool) (x : A) → cond b x x ≡ x
-cond-same true x = refl
-cond-same false x = refl

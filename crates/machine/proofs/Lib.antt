@@ -1,0 +1,4 @@
+pub mod Steps
+pub mod Bus
+pub mod Theorems
+pub mod Rows

@@ -1,0 +1,436 @@
+// The machine: one step by either technique, the bus writes, and the bounded run (document 01, "Steps").
+//
+// The public calls take and return the state by value. Inside, the registers are lent, and a run takes the state apart once:
+// passing the state from function to function costs a copy of 33 words at each call.
+ghost use mathlib.Core.Path.{_≡_};
+ghost use mathlib.Core.Bool.{true, cond};
+ghost use Prim.Native.Nat.{_+_, _<_, _≤_};
+ghost use lib.ListN.{length, getD, set};
+ghost use Rattle.answers.specs.Shape.{memoryShaped};
+ghost use Rattle.isa.specs.Theorems.{Registers};
+ghost use Rattle.machine.specs.Numbers.{stopNumber};
+ghost use Rattle.machine.specs.Steps.{fetchEnd, storeStart, nextAllowed, addressOf, branchOf, stateOf, loadOf, storeOf, effectOf, settleOf, intentOf, Steps};
+ghost use Rattle.machine.specs.Bus.{WritesData, WritesRegister};
+ghost use Rattle.machine.specs.Runs.{endingOf, Runs};
+ghost use Rattle.machine.specs.Inside.{InRange, Carried, outcomeOf};
+use answers::Refusal;
+use isa::Instr;
+use isa::Technique;
+
+pub struct State {
+    pub regs: [u64; 32],
+    pub pc: u64,
+}
+
+impl State {
+    pub fn fresh(regs: [u64; 32]) -> Self
+        ensures { λ r. ⌜ r ≡ stateOf regs 0 ⌝ }
+    {
+        Self { regs: regs, pc: 0 }
+    }
+}
+
+// Why a step cannot be made.
+pub enum Stop {
+    Fetch,
+    Illegal,
+    Access,
+    Next,
+}
+
+pub enum Outcome {
+    Made,
+    Stopped(Stop),
+    Refused(Refusal),
+}
+
+pub struct Stepped {
+    pub state: State,
+    pub outcome: Outcome,
+}
+
+// Why a run ended.
+pub enum Ending {
+    Spent,
+    Stopped(Stop),
+    Refused(Refusal),
+}
+
+pub struct Ran {
+    pub state: State,
+    pub ending: Ending,
+    pub count: u16,
+}
+
+// What a bus write answers.
+pub enum Written {
+    Done,
+    Refused(Refusal),
+}
+
+pub struct RegisterWritten {
+    pub state: State,
+    pub answer: Written,
+}
+
+pub fn stop_number(stop: Stop) -> u8
+    ensures { λ r. ⌜ r ≡ stopNumber stop ⌝ }
+{
+    match stop {
+        Stop::Fetch => 1,
+        Stop::Illegal => 2,
+        Stop::Access => 3,
+        Stop::Next => 4,
+    }
+}
+
+// One step. The memory is n words of code and then the data.
+pub fn step(technique: Technique, state: State, memory: &mut [u64], n: usize) -> Stepped
+    ensures { λ r. ⌜ Steps technique n (now (memory .entry)) state r (now (memory .exit)) ⌝ }
+{
+    if answers::memory_shaped(memory.len(), n) {
+        let mut after = state;
+        let moved = advance(technique, memory, n, &mut after.regs, state.pc);
+        let Moved::To(next) = moved else {
+            let outcome = outcome_of(moved);
+            return Stepped {
+                state: after,
+                outcome: outcome,
+            };
+        };
+        after.pc = next;
+        return Stepped {
+            state: after,
+            outcome: Outcome::Made,
+        };
+    }
+    Stepped {
+        state: state,
+        outcome: Outcome::Refused(Refusal::Shape),
+    }
+}
+
+// Steps until one cannot be made or the limit is reached.
+pub fn run(technique: Technique, state: State, memory: &mut [u64], n: usize, limit: u16) -> Ran
+    ensures { λ r. ⌜ Runs technique n limit (now (memory .entry)) state r (now (memory .exit)) ⌝ }
+{
+    if answers::memory_shaped(memory.len(), n) {
+        let mut regs = state.regs;
+        let mut pc = state.pc;
+        let mut count: u16 = 0;
+        while count < limit {
+            let moved = advance(technique, memory, n, &mut regs, pc);
+            let Moved::To(next) = moved else {
+                let ending = ending_of(moved);
+                return Ran {
+                    state: State { regs: regs, pc: pc },
+                    ending: ending,
+                    count: count,
+                };
+            };
+            pc = next;
+            count += 1;
+        }
+        return Ran {
+            state: State { regs: regs, pc: pc },
+            ending: Ending::Spent,
+            count: count,
+        };
+    }
+    Ran {
+        state: state,
+        ending: Ending::Refused(Refusal::Shape),
+        count: 0,
+    }
+}
+
+// A bus write to a data word: the part of memory from n onward is handed on as the data part.
+pub fn write_data(memory: &mut [u64], n: usize, address: u64, word: u64) -> Written
+    ensures { λ r. ⌜ WritesData n (now (memory .entry)) address word r (now (memory .exit)) ⌝ }
+{
+    let at = address as usize;
+    if answers::memory_shaped(memory.len(), n) {
+        if at < n {
+            return Written::Refused(Refusal::NotData);
+        }
+        if at < memory.len() {
+            put_word(&mut memory[n..], at - n, word);
+            return Written::Done;
+        }
+        return Written::Refused(Refusal::NotData);
+    }
+    Written::Refused(Refusal::Shape)
+}
+
+// A bus write to a register.
+pub fn write_register(state: State, register: u64, word: u64) -> RegisterWritten
+    ensures { λ r. ⌜ WritesRegister state register word r ⌝ }
+{
+    let i = register as usize;
+    if i < 3 {
+        return RegisterWritten {
+            state: state,
+            answer: Written::Refused(Refusal::NotRegister),
+        };
+    }
+    if i <= 31 {
+        let mut after = state;
+        after.regs[i] = word;
+        return RegisterWritten {
+            state: after,
+            answer: Written::Done,
+        };
+    }
+    RegisterWritten {
+        state: state,
+        answer: Written::Refused(Refusal::NotRegister),
+    }
+}
+
+// What a step is about to do: the next pc, with a register or a word of memory to write, or nothing at all.
+pub enum Effect {
+    Go(u64),
+    SetRegister(u8, u64, u64),
+    PutWord(u64, u64, u64),
+    Stop(Stop),
+}
+
+// Where a step goes, or why it cannot be made.
+enum Moved {
+    To(u64),
+    Stopped(Stop),
+}
+
+// One step over lent registers.
+fn advance(
+    technique: Technique,
+    memory: &mut [u64],
+    n: usize,
+    regs: &mut [u64; 32],
+    pc: u64,
+) -> Moved
+    requires { ⌜ memoryShaped (length (now memory)) n ≡ true ⌝ }
+    ensures { λ r. ⌜ Carried (intentOf technique n (now (memory .entry)) (stateOf (now (regs .entry)) pc)) (now (regs .entry)) (now (memory .entry)) r (now (regs .exit)) (now (memory .exit)) ⌝ }
+{
+    let effect = intent(technique, &memory[..], n, &*regs, pc);
+    perform(memory, regs, effect)
+}
+
+fn perform(memory: &mut [u64], regs: &mut [u64; 32], effect: Effect) -> Moved
+    requires { ⌜ InRange (length (now memory)) effect ⌝ }
+    ensures { λ r. ⌜ Carried effect (now (regs .entry)) (now (memory .entry)) r (now (regs .exit)) (now (memory .exit)) ⌝ }
+{
+    match effect {
+        Effect::Go(next) => Moved::To(next),
+        Effect::SetRegister(rd, value, next) => {
+            let i = rd as usize;
+            regs[i] = value;
+            Moved::To(next)
+        }
+        Effect::PutWord(address, value, next) => {
+            let at = address as usize;
+            memory[at] = value;
+            Moved::To(next)
+        }
+        Effect::Stop(stop) => Moved::Stopped(stop),
+    }
+}
+
+fn intent(technique: Technique, memory: &[u64], n: usize, regs: &[u64; 32], pc: u64) -> Effect
+    requires { ⌜ memoryShaped (length (now memory)) n ≡ true ⌝ }
+    ensures { λ r. ⌜ r ≡ intentOf technique n (now (memory .entry)) (stateOf (now (regs .entry)) pc) ⌝ }
+{
+    let at = pc as usize;
+    if at < fetch_end(technique, n, memory.len()) {
+        let i = isa::decode(memory[at]);
+        return effect_of(technique, memory, n, regs, pc, i);
+    }
+    Effect::Stop(Stop::Fetch)
+}
+
+// What the instruction does, or why it cannot. Each arm tests its own next pc: that is faster than one test after the match.
+fn effect_of(
+    technique: Technique,
+    memory: &[u64],
+    n: usize,
+    regs: &[u64; 32],
+    pc: u64,
+    i: Instr,
+) -> Effect
+    requires { ⌜ Registers i × (pc < 4096) ⌝ }
+    ensures { λ r. ⌜ r ≡ settleOf technique n (effectOf technique n (now (memory .entry)) (stateOf (now (regs .entry)) pc) i) ⌝ }
+{
+    let next = pc + 1;
+    match i {
+        Instr::Label(_) => go(technique, n, next),
+        Instr::Add(rd, rs, rt) => set_register(
+            technique,
+            n,
+            rd,
+            std::num::wrapping_add_u64(reg(regs, rs), reg(regs, rt)),
+            next,
+        ),
+        Instr::Addi(rd, rs, w) => set_register(
+            technique,
+            n,
+            rd,
+            std::num::wrapping_add_u64(reg(regs, rs), wide(w)),
+            next,
+        ),
+        Instr::Movi(rd, w) => set_register(technique, n, rd, wide(w), next),
+        Instr::Bgt(rs, rt, w) => go(
+            technique,
+            n,
+            branch(reg(regs, rs), reg(regs, rt), wide(w), next),
+        ),
+        Instr::Jd(w) => go(technique, n, wide(w)),
+        Instr::Jmp(rs) => go(technique, n, reg(regs, rs)),
+        Instr::Ld(rd, rs, w) => load(technique, memory, n, rd, address(reg(regs, rs), w), next),
+        Instr::St(rd, rs, w) => store(
+            technique,
+            memory,
+            n,
+            address(reg(regs, rd), w),
+            reg(regs, rs),
+            next,
+        ),
+        Instr::Illegal => Effect::Stop(Stop::Illegal),
+    }
+}
+
+fn fetch_end(technique: Technique, n: usize, len: usize) -> usize
+    ensures { λ r. ⌜ r ≡ fetchEnd technique n len ⌝ }
+{
+    match technique {
+        Technique::Plain => n,
+        Technique::MemoryGuards => len,
+    }
+}
+
+fn store_start(technique: Technique, n: usize) -> usize
+    ensures { λ r. ⌜ r ≡ storeStart technique n ⌝ }
+{
+    match technique {
+        Technique::Plain => n,
+        Technique::MemoryGuards => 0,
+    }
+}
+
+fn next_allowed(technique: Technique, n: usize, next: u64) -> bool
+    ensures { λ r. ⌜ r ≡ nextAllowed technique n next ⌝ }
+{
+    match technique {
+        Technique::Plain => next < n as u64,
+        Technique::MemoryGuards => true,
+    }
+}
+
+// The address of a load or a store.
+fn address(base: u64, w: u32) -> u64
+    ensures { λ r. ⌜ r ≡ addressOf base w ⌝ }
+{
+    std::num::wrapping_add_u64(base, wide(w))
+}
+
+fn branch(x: u64, y: u64, w: u64, next: u64) -> u64
+    ensures { λ r. ⌜ r ≡ branchOf x y w next ⌝ }
+{
+    if y < x { w } else { next }
+}
+
+fn go(technique: Technique, n: usize, next: u64) -> Effect
+    ensures { λ r. ⌜ r ≡ settleOf technique n (Effect.Go next) ⌝ }
+{
+    effect_if(next_allowed(technique, n, next), Effect::Go(next))
+}
+
+fn set_register(technique: Technique, n: usize, rd: u8, value: u64, next: u64) -> Effect
+    ensures { λ r. ⌜ r ≡ settleOf technique n (Effect.SetRegister rd value next) ⌝ }
+{
+    effect_if(
+        next_allowed(technique, n, next),
+        Effect::SetRegister(rd, value, next),
+    )
+}
+
+fn load(technique: Technique, memory: &[u64], n: usize, rd: u8, address: u64, next: u64) -> Effect
+    ensures { λ r. ⌜ r ≡ settleOf technique n (loadOf (now (memory .entry)) rd address next) ⌝ }
+{
+    let at = address as usize;
+    if at < memory.len() {
+        return set_register(technique, n, rd, memory[at], next);
+    }
+    Effect::Stop(Stop::Access)
+}
+
+fn store(
+    technique: Technique,
+    memory: &[u64],
+    n: usize,
+    address: u64,
+    value: u64,
+    next: u64,
+) -> Effect
+    ensures { λ r. ⌜ r ≡ settleOf technique n (storeOf technique n (now (memory .entry)) address value next) ⌝ }
+{
+    let at = address as usize;
+    if at < store_start(technique, n) {
+        return Effect::Stop(Stop::Access);
+    }
+    if at < memory.len() {
+        return effect_if(
+            next_allowed(technique, n, next),
+            Effect::PutWord(address, value, next),
+        );
+    }
+    Effect::Stop(Stop::Access)
+}
+
+fn effect_if(allowed: bool, effect: Effect) -> Effect
+    ensures { λ r. ⌜ r ≡ cond allowed effect (Effect.Stop Stop.Next) ⌝ }
+{
+    if allowed {
+        effect
+    } else {
+        Effect::Stop(Stop::Next)
+    }
+}
+
+fn outcome_of(moved: Moved) -> Outcome
+    ensures { λ r. ⌜ r ≡ outcomeOf moved ⌝ }
+{
+    match moved {
+        Moved::To(_) => Outcome::Made,
+        Moved::Stopped(stop) => Outcome::Stopped(stop),
+    }
+}
+
+fn ending_of(moved: Moved) -> Ending
+    ensures { λ r. ⌜ r ≡ endingOf (outcomeOf moved) ⌝ }
+{
+    match moved {
+        Moved::To(_) => Ending::Spent,
+        Moved::Stopped(stop) => Ending::Stopped(stop),
+    }
+}
+
+fn reg(regs: &[u64; 32], r: u8) -> u64
+    requires { ⌜ r < 32 ⌝ }
+    ensures { λ v. ⌜ v ≡ getD (now (regs .entry)) r 0 ⌝ }
+{
+    let i = r as usize;
+    regs[i]
+}
+
+fn wide(x: u32) -> u64
+    ensures { λ r. ⌜ r ≡ x ⌝ }
+{
+    x as u64
+}
+
+fn put_word(part: &mut [u64], at: usize, word: u64)
+    requires { ⌜ at < length (now part) ⌝ }
+    ensures { λ r. ⌜ now (part .exit) ≡ set (now (part .entry)) at word ⌝ }
+{
+    part[at] = word;
+}
