@@ -30,7 +30,7 @@ use Rattle.isa.specs.Words.{
   wordOf,
   encodeOf,
 }
-use Rattle.isa.specs.Theorems.{Registers, RoundTrips, WordRows}
+use Rattle.isa.specs.Theorems.{Registers, RoundTrips}
 
 -- a word's fields, read as a given kind
 abbrev fieldsAs : Kind → ℕ → Fields
@@ -300,7 +300,3 @@ round-trips =
     go : (i : Instr) → fieldsOf i .w < 2 ^ 32 → (i ≡ Instr.Illegal) ⊎ (exact (fieldsOf i) ≡ true) → decodeOf (encodeOf i) ≡ i
     go i hw (inl e) = rw e
     go i hw (inr e) = exact-instruction i e hw
-
-pub word-rows : WordRows
-unfolding decodeOf
-word-rows = record { label-7 = refl; movi-r2-7 = refl; register-32 = refl; jmp-with-w = refl }

@@ -28,10 +28,3 @@ pub record RoundTrips : Type 0 where
   pub all-bits-set : decodeOf allBitsSet ≡ Instr.Illegal
   -- "The word of label w is the number w, so a movi can hold it."
   pub label-word : (w : ℕ) → encodeOf (Instr.Label w) ≡ w
-
--- the starred rows on words
-pub record WordRows : Type 0 where
-  pub label-7 : decodeOf 0x0000000000000007 ≡ Instr.Label 7
-  pub movi-r2-7 : decodeOf 0x0302000000000007 ≡ Instr.Movi 2 7
-  pub register-32 : decodeOf 0x0320000000000007 ≡ Instr.Illegal
-  pub jmp-with-w : decodeOf 0x0600000000000001 ≡ Instr.Illegal

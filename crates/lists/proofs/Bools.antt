@@ -1,6 +1,6 @@
--- Laws of tests: what a joined test says of its parts.
-use mathlib.Core.Path.{_≡_, refl}
-use mathlib.Core.Bool.{Bool, true, false, _&&_}
+-- Laws of tests: what a joined test says of its parts, and picks whose two sides agree.
+use mathlib.Core.Path.{_≡_, refl, sym}
+use mathlib.Core.Bool.{Bool, true, false, cond, _&&_, _||_}
 use Prim.Native.Nat.{ℕ}
 use native.Mathlib.Omega.{arith}
 
@@ -21,3 +21,38 @@ and-four true true true s h = (refl, refl, refl, h)
 and-four true true false s h = clash (cc)
 and-four true false r s h = clash (cc)
 and-four false q r s h = clash (cc)
+
+pub cond-same : {A : Type 0} (b : Bool) (x : A) → cond b x x ≡ x
+cond-same true x = refl
+cond-same false x = refl
+
+pub true-false : {b : Bool} → b ≡ true → b ≡ false → ⊥
+true-false p q = clash (cc)
+
+-- a test that holds exactly where another does
+pub same-bool : (a b : Bool) → (a ≡ true → b ≡ true) → (b ≡ true → a ≡ true) → a ≡ b
+same-bool true true f g = refl
+same-bool true false f g = sym (f refl)
+same-bool false true f g = g refl
+same-bool false false f g = refl
+
+pub both-true : {a b : Bool} → a ≡ true → b ≡ true → (a && b) ≡ true
+both-true p q = rw (p, q)
+
+-- what is left of a joined test that fails
+pub and-rest : (a b : Bool) → a ≡ true → (a && b) ≡ false → b ≡ false
+and-rest true b p q = q
+and-rest false b p q = clash (cc)
+
+pub or-left : (a b : Bool) → (a || b) ≡ false → a ≡ false
+or-left true b e = e
+or-left false b e = refl
+
+pub or-right : (a b : Bool) → (a || b) ≡ false → b ≡ false
+or-right true b e = clash (cc)
+or-right false b e = e
+
+-- tests that agree wherever the first part holds
+pub and-under : (a b c : Bool) → (a ≡ true → b ≡ c) → (a && b) ≡ (a && c)
+and-under true b c h = h refl
+and-under false b c h = refl

@@ -1,1 +1,3 @@
 pub mod Bools
+pub mod Search
+pub mod Tests

@@ -1,4 +1,3 @@
 pub mod Steps
 pub mod Bus
 pub mod Theorems
-pub mod Rows

@@ -4,4 +4,3 @@ pub mod Bus
 pub mod Runs
 pub mod Inside
 pub mod Theorems
-pub mod Rows

@@ -1,12 +1,13 @@
--- The starred rows on runs, by computation over 32 registers that are left free.
+-- The table, by computation; the registers of the runs are left free.
 use Prim.Native.Nat.{ℕ, zero, suc}
 use mathlib.Core.Path.{_≡_, refl}
 use mathlib.Core.List.{List, [], _∷_}
 use native.Mathlib.Omega.{arith}
 use lib.ListN.{length}
+use Rattle.lists.specs.Search.{lowest, any}
 use Rattle.lists.proofs.Bools.{clash}
 use Rattle.isa.specs.Words.{decodeOf, wordOf, encodeOf}
 use Rattle.machine.specs.Steps.{
   addressOf,
   loadOf,
   storeOf,
@@ -18,9 +19,15 @@ use Rattle.machine.specs.Steps.{
   stepOf,
   stepMemory,
 }
 use Rattle.machine.specs.Bus.{writeRegisterOf}
 use Rattle.machine.specs.Runs.{runFrom, runOf}
-use Rattle.machine.specs.Rows.{RunRows}
+use Rattle.graph.specs.Claim.{isEdge, hasEdge, isDestination, idOf}
+use Rattle.guards.specs.Sequences.{fits, standsAt, endsAt}
+use Rattle.guards.specs.Rules.{insideJumpGuard, insideStoreGuard}
+use Rattle.checker.specs.Verdicts.{firstBroken, verdictOf}
+use Rattle.parcel.specs.Bytes.{numberOf, bytesOf, numbersOf, allBytesOf}
+use Rattle.parcel.specs.Parcel.{countOf, sectionFrom, atEnd, readOf, sectionOf, parcelOf}
+use Rattle.table.specs.Table.{RunRows, Table}
 
 -- what holds of every k numbers in a row holds of every list of length k
 abbrev ForEach : ℕ → (List ℕ → Type 0) → Type 0
@@ -33,7 +40,7 @@ of-length zero P h (x ∷ xs) e = clash (omega arith)
 of-length (suc k) P h [] e = clash (omega arith)
 of-length (suc k) P h (x ∷ xs) e = of-length k (λ ys. P (x ∷ ys)) (h x) xs (omega arith)
 
-pub run-rows : (regs : List ℕ) → length regs ≡ 32 → RunRows regs
+run-rows : (regs : List ℕ) → length regs ≡ 32 → RunRows regs
 unfolding decodeOf wordOf encodeOf addressOf loadOf storeOf effectOf settleOf intentOf afterOf memoryAfter stepOf stepMemory writeRegisterOf runFrom runOf
 run-rows =
     of-length 32 RunRows
@@ -50,3 +57,23 @@ run-rows =
       nine-pc = refl;
       nine-relaxed = refl;
     })
+
+pub table : Table
+unfolding decodeOf wordOf encodeOf verdictOf firstBroken lowest any isEdge hasEdge isDestination idOf fits standsAt endsAt insideJumpGuard insideStoreGuard numberOf bytesOf numbersOf allBytesOf countOf sectionFrom atEnd readOf sectionOf parcelOf
+table =
+    record {
+      label-7 = refl;
+      movi-r2-7 = refl;
+      register-32 = refl;
+      jmp-with-w = refl;
+      post-plain = refl;
+      post-memory-guards = refl;
+      no-edge = refl;
+      edge-6-8 = refl;
+      jd-2 = refl;
+      jd-1 = refl;
+      word-4-at-7 = refl;
+      runs = run-rows;
+      parcel-size = refl;
+      parcel-read = refl;
+    }

@@ -1,0 +1,5 @@
+pub mod Rows
+pub mod Listed
+pub mod Faultless
+pub mod Readings
+pub mod Equivalence

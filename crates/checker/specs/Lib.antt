@@ -1,0 +1,3 @@
+pub mod Verdicts
+pub mod Conditions
+pub mod Theorems

@@ -1,0 +1,4 @@
+pub mod Fits
+pub mod Replay
+pub mod Known
+pub mod Targets

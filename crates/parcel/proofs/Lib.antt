@@ -1,0 +1,11 @@
+pub mod Numbers
+pub mod Runs
+pub mod Sections
+pub mod WriterAnswers
+pub mod Contents
+pub mod Standing
+pub mod ReaderAnswers
+pub mod RoundTrips
+pub mod Post
+pub mod Calls
+pub mod Front

@@ -1,0 +1,5 @@
+pub mod Bytes
+pub mod Parcel
+pub mod Inner
+pub mod Theorems
+pub mod Post
