@@ -1,4 +1,4 @@
-pub mod Rows
+pub mod Rules
 pub mod Listed
 pub mod Faultless
 pub mod Readings

@@ -1,1 +1,122 @@
 // The verdict on a program: the rules of document 01 in their order.
+ghost use mathlib.Core.Path.{_≡_};
+ghost use Prim.Native.Nat.{_≤_};
+ghost use Rattle.lists.specs.Tables.{Table};
+ghost use Rattle.graph.specs.Claim.{edgeCount, idOf};
+ghost use Rattle.graph.specs.Passes.{Sized, Owned};
+ghost use Rattle.checker.specs.Verdicts.{firstBroken, graphRules, labelRules, guardRules, verdictOf};
+
+mod branches;
+mod code;
+mod edges;
+mod labels;
+mod patterns;
+mod sets;
+mod unguarded;
+
+use answers::Place;
+use answers::Refusal;
+use answers::Verdict;
+use answers::edges_shaped;
+use answers::memory_shaped;
+use branches::first_wrong_branch;
+use code::illegal_at;
+use edges::first_from_no_jump;
+use edges::first_outside_code;
+use edges::first_without_edge;
+use edges::lowest_targets;
+use isa::Technique;
+use labels::first_label_wrong;
+use lists::both;
+use sets::first_overlap;
+use sets::owners;
+use unguarded::first_bare_jump;
+use unguarded::first_bare_store;
+
+// Whether the n words of code at the front of memory, with these edges, keep the technique's conditions, and if not, the
+// number and the place of the first fault.
+pub fn check(technique: Technique, memory: &[u64], n: usize, edges: &[u16]) -> Verdict
+    ensures { λ r. ⌜ r ≡ verdictOf technique (now (memory .entry)) n (now (edges .entry)) ⌝ }
+{
+    if both(memory_shaped(memory.len(), n), edges_shaped(edges.len())) {
+        return check_graph(technique, memory, n, edges);
+    }
+    Verdict::Refused(Refusal::Shape, Place::Nowhere)
+}
+
+// Rules 7 to 10, and the others after them.
+fn check_graph(technique: Technique, memory: &[u64], n: usize, edges: &[u16]) -> Verdict
+    requires { ⌜ Sized (now memory) n × (edgeCount (now edges) ≤ 2048) ⌝ }
+    ensures { λ r. ⌜ r ≡ firstBroken (graphRules (now (memory .entry)) n (now (edges .entry)) (labelRules (now (memory .entry)) n (now (edges .entry)) (guardRules technique (now (memory .entry)) n (now (edges .entry))))) ⌝ }
+{
+    let m = edges.len() / 2;
+    let e = first_from_no_jump(memory, n, edges);
+    if e < m {
+        return Verdict::Refused(Refusal::EdgeFromNoJump, Place::Edge(e));
+    }
+    let f = first_outside_code(n, edges);
+    if f < m {
+        return Verdict::Refused(Refusal::TargetOutsideCode, Place::Edge(f));
+    }
+    let mut id = [0u16; 2048];
+    lowest_targets(edges, n, &mut id);
+    let a = first_without_edge(memory, n, edges, &id);
+    if a < n {
+        return Verdict::Refused(Refusal::JumpWithoutEdge, Place::Address(a));
+    }
+    let mut own = [0u16; 2048];
+    owners(edges, n, &id, &mut own);
+    let b = first_overlap(edges, n, &id, &own);
+    if b < n {
+        return Verdict::Refused(Refusal::TargetSetsOverlap, Place::Address(b));
+    }
+    check_labels(technique, memory, n, edges, &id, &own)
+}
+
+// Rules 11 and 12, and the others after them.
+fn check_labels(
+    technique: Technique,
+    memory: &[u64],
+    n: usize,
+    edges: &[u16],
+    id: &[u16; 2048],
+    own: &[u16; 2048],
+) -> Verdict
+    requires { ⌜ Sized (now memory) n × Table (now id) n (idOf (now edges) n) × Owned (now edges) n (now own) ⌝ }
+    ensures { λ r. ⌜ r ≡ firstBroken (labelRules (now (memory .entry)) n (now (edges .entry)) (guardRules technique (now (memory .entry)) n (now (edges .entry)))) ⌝ }
+{
+    if !illegal_at(memory, n - 1) {
+        return Verdict::Refused(Refusal::LastWordLegal, Place::Address(n - 1));
+    }
+    let a = first_label_wrong(memory, n, edges, own);
+    if a < n {
+        return Verdict::Refused(Refusal::LabelCondition, Place::Address(a));
+    }
+    check_guards(technique, memory, n, edges, id)
+}
+
+// Rules 13 to 15.
+fn check_guards(
+    technique: Technique,
+    memory: &[u64],
+    n: usize,
+    edges: &[u16],
+    id: &[u16; 2048],
+) -> Verdict
+    requires { ⌜ Sized (now memory) n × Table (now id) n (idOf (now edges) n) ⌝ }
+    ensures { λ r. ⌜ r ≡ firstBroken (guardRules technique (now (memory .entry)) n (now (edges .entry))) ⌝ }
+{
+    let a = first_bare_store(technique, memory, n);
+    if a < n {
+        return Verdict::Refused(Refusal::StoreUnguarded, Place::Address(a));
+    }
+    let b = first_bare_jump(technique, memory, n, edges, id);
+    if b < n {
+        return Verdict::Refused(Refusal::JumpUnguarded, Place::Address(b));
+    }
+    let d = first_wrong_branch(technique, memory, n, edges);
+    if d < n {
+        return Verdict::Refused(Refusal::BranchTarget, Place::Address(d));
+    }
+    Verdict::Accepted
+}

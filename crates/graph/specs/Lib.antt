@@ -1,2 +1,3 @@
 pub mod Claim
 pub mod Rules
+pub mod Passes

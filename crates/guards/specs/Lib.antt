@@ -1,2 +1,3 @@
 pub mod Sequences
 pub mod Rules
+pub mod Patterns

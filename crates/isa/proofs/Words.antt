@@ -2,10 +2,10 @@
 use Prim.Native.Nat.{ℕ, _+_, _*_, _/_, _%_, _^_, _<_}
 use mathlib.Core.Path.{_≡_, refl, ap, sym, _∙_}
 use mathlib.Core.Logic.{_⊎_, inl, inr}
-use mathlib.Core.Bool.{Bool, true, false, cond}
+use mathlib.Core.Bool.{Bool, true, false, cond, _&&_}
 use native.Mathlib.Nat.{div-div-eq-div-mul}
 use native.Mathlib.Omega.{arith}
-use lib.Dec.{eqb}
+use lib.Dec.{ltb, eqb}
 use borrow.Author.Tests.{eqb-true, ltb-true, lt-ltb}
 use Rattle.lists.proofs.Bools.{clash, and-left, and-right, and-four}
 use Rattle.isa.specs.declared.Kind.{Kind}
@@ -33,7 +33,7 @@ use Rattle.isa.specs.Words.{
 use Rattle.isa.specs.Theorems.{Registers, RoundTrips}
 
 -- a word's fields, read as a given kind
-abbrev fieldsAs : Kind → ℕ → Fields
+abbrev pub fieldsAs : Kind → ℕ → Fields
 fieldsAs k x = fields k (x / 2 ^ 48 % 256) (x / 2 ^ 40 % 256) (x / 2 ^ 32 % 256) (x % 2 ^ 32)
 
 -- decoding by kinds: an arm that tests its own kind gives the definition
@@ -47,7 +47,7 @@ unfolding decodeOf
 decode-unknown x h = rw h
 
 -- opcodes and kinds
-kind-opcode : (k : Kind) → known k ≡ true → kindOf (opcodeOf k) ≡ k
+pub kind-opcode : (k : Kind) → known k ≡ true → kindOf (opcodeOf k) ≡ k
 kind-opcode Kind.Label h = refl
 kind-opcode Kind.Add h = refl
 kind-opcode Kind.Addi h = refl
@@ -74,7 +74,7 @@ opcode-small k =
       | Kind.Unknown ↦ omega arith
     ]
 
-abbrev Opcode : ℕ → Kind → Type 0
+abbrev pub Opcode : ℕ → Kind → Type 0
 Opcode op k = known k ≡ true → opcodeOf k ≡ op
 
 -- one test of `kindOf`: either it holds, and the opcode is the kind's, or the rest decides
@@ -85,7 +85,7 @@ tested op i k r hk hr = go (eqb op i) refl
     go true e = λ h. hk ∙ sym (eqb-true op i e)
     go false e = hr
 
-opcode-kind : (op : ℕ) → Opcode op (kindOf op)
+pub opcode-kind : (op : ℕ) → Opcode op (kindOf op)
 opcode-kind op =
     tested op 0 Kind.Label _ refl
     (tested op 1 Kind.Add _ refl
@@ -97,7 +97,7 @@ opcode-kind op =
     (tested op 7 Kind.Ld _ refl (tested op 8 Kind.St _ refl (λ h. clash (cc))))))))))
 
 -- the parts of a word and the word of its parts
-pack-split : (w : ℕ) → (k : Kind) → opcodeOf k ≡ w / 2 ^ 56 → pack (fieldsAs k w) ≡ w
+pub pack-split : (w : ℕ) → (k : Kind) → opcodeOf k ≡ w / 2 ^ 56 → pack (fieldsAs k w) ≡ w
 pack-split w k h =
     rw h
     (omega (arith, div-div-eq-div-mul w (2 ^ 32) 256, div-div-eq-div-mul w (2 ^ 40) 256, div-div-eq-div-mul w (2 ^ 48) 256))
@@ -134,14 +134,14 @@ register-small : (b : Bool) (x : ℕ) → registerOk b x ≡ true → x < 256
 register-small true x h = omega (arith, ltb-true x 32 h)
 register-small false x h = omega (arith, eqb-true x 0 h)
 
-record Fit (f : Fields) : Type 0 where
-  is-known : known (f .kind) ≡ true
-  a-fits : registerOk (namedBy (f .kind) .a) (f .a) ≡ true
-  b-fits : registerOk (namedBy (f .kind) .b) (f .b) ≡ true
-  c-fits : registerOk (namedBy (f .kind) .c) (f .c) ≡ true
-  w-fits : immediateOk (namedBy (f .kind) .w) (f .w) ≡ true
+pub record Fit (f : Fields) : Type 0 where
+  pub is-known : known (f .kind) ≡ true
+  pub a-fits : registerOk (namedBy (f .kind) .a) (f .a) ≡ true
+  pub b-fits : registerOk (namedBy (f .kind) .b) (f .b) ≡ true
+  pub c-fits : registerOk (namedBy (f .kind) .c) (f .c) ≡ true
+  pub w-fits : immediateOk (namedBy (f .kind) .w) (f .w) ≡ true
 
-fit : (f : Fields) → exact f ≡ true → Fit f
+pub fit : (f : Fields) → exact f ≡ true → Fit f
 fit f h =
     let p = and-four _ _ _ _ (and-right (known (f .kind)) (fieldsFit f) h) in
     record { is-known = and-left (known (f .kind)) _ h; a-fits = p .0; b-fits = p .1; c-fits = p .2; w-fits = p .3 }
@@ -167,7 +167,7 @@ fields-instr Kind.Ld a b c w = refl
 fields-instr Kind.St a b c w = refl
 fields-instr Kind.Unknown a b c w = refl
 
-exact-back : (f : Fields) → exact f ≡ true → fieldsOf (instrOf f) ≡ f
+pub exact-back : (f : Fields) → exact f ≡ true → fieldsOf (instrOf f) ≡ f
 exact-back f h =
     let e = fit f h in
     fields-instr (f .kind) (f .a) (f .b) (f .c) (f .w)
@@ -190,7 +190,7 @@ instr-fields (Instr.Ld d s w) = refl
 instr-fields (Instr.St d s w) = refl
 instr-fields Instr.Illegal = refl
 
-split-pack : (f : Fields) → exact f ≡ true → f .w < 2 ^ 32 → split (pack f) ≡ f
+pub split-pack : (f : Fields) → exact f ≡ true → f .w < 2 ^ 32 → split (pack f) ≡ f
 split-pack f h hw =
     let e = fit f h in
     let o = opcodeOf (f .kind) in
@@ -207,7 +207,7 @@ split-pack f h hw =
       kind-opcode (f .kind) (e .is-known),
     )
 
-word-back : (w : ℕ) → (decodeOf w ≡ Instr.Illegal → ⊥) → encodeOf (decodeOf w) ≡ w
+pub word-back : (w : ℕ) → (decodeOf w ≡ Instr.Illegal → ⊥) → encodeOf (decodeOf w) ≡ w
 unfolding decodeOf encodeOf wordOf
 word-back w legal = go (exact (split w)) refl legal
   where
@@ -219,17 +219,17 @@ word-back w legal = go (exact (split w)) refl legal
         (pack-split w (split w .kind) (opcode-kind (w / 2 ^ 56) (fit (split w) e .is-known)))
 
 -- an exact form survives encoding
-encode-exact : (i : Instr) → exact (fieldsOf i) ≡ true → encodeOf i ≡ pack (fieldsOf i)
+pub encode-exact : (i : Instr) → exact (fieldsOf i) ≡ true → encodeOf i ≡ pack (fieldsOf i)
 unfolding encodeOf wordOf
 encode-exact i e = rw e
 
-decode-exact : (w : ℕ) (f : Fields) → split w ≡ f → exact f ≡ true → decodeOf w ≡ instrOf f
+pub decode-exact : (w : ℕ) (f : Fields) → split w ≡ f → exact f ≡ true → decodeOf w ≡ instrOf f
 unfolding decodeOf
 decode-exact w f q e =
     ap (λ (x : Fields). cond (exact x) (instrOf x) Instr.Illegal) q
     ∙ ap (λ (b : Bool). cond b (instrOf f) Instr.Illegal) e
 
-exact-instruction : (i : Instr) → exact (fieldsOf i) ≡ true → fieldsOf i .w < 2 ^ 32 → decodeOf (encodeOf i) ≡ i
+pub exact-instruction : (i : Instr) → exact (fieldsOf i) ≡ true → fieldsOf i .w < 2 ^ 32 → decodeOf (encodeOf i) ≡ i
 exact-instruction i e hw =
     ap decodeOf (encode-exact i e) ∙ decode-exact _ (fieldsOf i) (split-pack (fieldsOf i) e hw) e ∙ instr-fields i
 

@@ -4,12 +4,18 @@ use mathlib.Core.Bool.{Bool, true, false}
 use mathlib.Core.Option.{Option, none, some}
 use mathlib.Core.List.{List}
 use lib.ListN.{getD}
+use lib.Dec.{eqb}
+use Rattle.isa.specs.declared.Kind.{Kind}
 use Rattle.isa.specs.declared.Instr.{Instr}
-use Rattle.isa.specs.Words.{decodeOf}
+use Rattle.isa.specs.Words.{opcodeOf, fieldsOf, decodeOf}
 
 -- the instruction that the word at an address is
 abbrev pub instrAt : List ℕ → ℕ → Instr
 instrAt memory a = decodeOf (getD memory a 0)
+
+-- an instruction of this kind
+abbrev pub isKind : Kind → Instr → Bool
+isKind kind i = eqb (opcodeOf kind) (opcodeOf (fieldsOf i .kind))
 
 -- the word is illegal
 abbrev pub isIllegal : Instr → Bool

@@ -1,6 +1,7 @@
 // Instruction words: decoder and encoder (document 01, "Words and memory").
 ghost use mathlib.Core.Path.{_≡_};
-ghost use mathlib.Core.Bool.{cond};
+ghost use mathlib.Core.Bool.{cond, _&&_};
+ghost use Rattle.isa.specs.Instructions.{isIllegal, isKind};
 ghost use Rattle.isa.specs.Words.{kindOf, opcodeOf, namedBy, registerOk, immediateOk, known, exact, fields, pack, allBitsSet, decodeOf, wordOf, encodeOf};
 use lists::both;
 
@@ -62,6 +63,39 @@ pub fn encode(i: Instr) -> u64
         Instr::St(rd, rs, w) => word_of(Kind::St, rd, rs, 0, w),
         Instr::Illegal => 0xffff_ffff_ffff_ffff,
     }
+}
+
+// No instruction.
+pub fn is_illegal(i: Instr) -> bool
+    ensures { λ r. ⌜ r ≡ isIllegal i ⌝ }
+{
+    match i {
+        Instr::Label(_) => false,
+        Instr::Add(_, _, _) => false,
+        Instr::Addi(_, _, _) => false,
+        Instr::Movi(_, _) => false,
+        Instr::Bgt(_, _, _) => false,
+        Instr::Jd(_) => false,
+        Instr::Jmp(_) => false,
+        Instr::Ld(_, _, _) => false,
+        Instr::St(_, _, _) => false,
+        Instr::Illegal => true,
+    }
+}
+
+// Whether a word is an instruction of this kind, without decoding the rest of it.
+pub fn is_a(kind: Kind, word: u64) -> bool
+    ensures { λ r. ⌜ r ≡ (known kind && isKind kind (decodeOf word)) ⌝ }
+{
+    let a = (word / 0x1_0000_0000_0000 % 256) as u8;
+    let b = (word / 0x100_0000_0000 % 256) as u8;
+    let c = (word / 0x1_0000_0000 % 256) as u8;
+    let w = (word % 0x1_0000_0000) as u32;
+    let opcode = opcode_of(kind);
+    both(
+        wide8(opcode) == word / 0x100_0000_0000_0000,
+        is_exact(kind, a, b, c, w),
+    )
 }
 
 pub enum Kind {

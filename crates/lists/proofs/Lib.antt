@@ -1,3 +1,5 @@
 pub mod Bools
 pub mod Search
+pub mod Counts
+pub mod Tables
 pub mod Tests

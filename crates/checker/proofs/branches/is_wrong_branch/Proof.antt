@@ -1,0 +1,22 @@
+-- `branches::is_wrong_branch` meets its contract: a branch holds its target, and no other word has one.
+use Rattle.isa.specs.declared.Kind.{Kind}
+use mathlib.Core.Path.{sym, ap, _∙_}
+use borrow.Author.Needs.{needs}
+use lib.ListN.{getD}
+use Rattle.lists.proofs.Bools.{or-left, or-right}
+use Rattle.isa.specs.Instructions.{instrAt, isKind}
+use Rattle.isa.proofs.ByKind.{no-branch, branch-low}
+use Rattle.guards.specs.Patterns.{targetBadIfAny}
+use Rattle.checker.proofs.branches.is_wrong_branch.Statement.{statement}
+use Rattle.checker.proofs.branches.is_wrong_branch.Tie as tie
+
+pub is-wrong-branch-spec : {M : Type 1} → statement M
+is-wrong-branch-spec =
+    tie.close
+    (tie.spec
+    (λ c. search needs)
+    (λ c. search needs)
+    (λ c κs. search needs)
+    (λ c κs. search needs)
+    (λ c. c .is-wrong-target .ensures ∙ sym (ap (targetBadIfAny (c .before .before .before .before .before .args .technique) (c .before .before .before .before .before .args .memory .now) (c .before .before .before .before .before .args .n)) (branch-low (getD (c .before .before .before .before .before .args .memory .now) (c .before .before .before .before .before .args .a) 0) (sym (c .before .before .is-branch .ensures) ∙ c .before .if1 .taken))))
+    (λ c. sym (ap (targetBadIfAny (c .before .before .before .before .args .technique) (c .before .before .before .before .args .memory .now) (c .before .before .before .before .args .n)) (let h = sym (c .before .is-branch .ensures) ∙ c .if1 .left in no-branch (instrAt (c .before .before .before .before .args .memory .now) (c .before .before .before .before .args .a)) (or-left _ (isKind Kind.Jd (instrAt (c .before .before .before .before .args .memory .now) (c .before .before .before .before .args .a))) h) (or-right (isKind Kind.Bgt (instrAt (c .before .before .before .before .args .memory .now) (c .before .before .before .before .args .a))) _ h)))))

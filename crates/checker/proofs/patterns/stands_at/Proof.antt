@@ -1,0 +1,40 @@
+-- `patterns::stands_at` meets its contract: what is left of the match is what the whole asks.
+use Prim.Native.Nat.{ℕ, _-_, _≤_}
+use mathlib.Core.Path.{_≡_, sym, _∙_}
+use native.Mathlib.Omega.{arith}
+use borrow.Author.Needs.{needs}
+use borrow.Author.Tests.{not-true, not-false}
+use Rattle.guards.specs.Patterns.{slotsFrom, Formed}
+use Rattle.guards.specs.Sequences.{standsAt}
+use Rattle.guards.proofs.Arrays.{Rest, rest-all, rest-none, rest-step, formed-step}
+use Rattle.checker.proofs.patterns.stands_at.Statement.{statement}
+use Rattle.checker.proofs.patterns.stands_at.Tie as tie
+
+zero-less : (len : ℕ) → len - 0 ≡ len
+zero-less len = omega arith
+
+abbrev Inv-loop : tie.InvT-loop
+Inv-loop memory b words free len k₀ k = (k ≤ len) × (standsAt memory b (slotsFrom words free 0 len) ≡ Rest memory words free b len k) × Formed (slotsFrom words free k (len - k))
+
+abbrev μ-loop : tie.MeasureT-loop
+μ-loop memory b words free len k₀ k = len - k
+
+pub stands-at-spec : {M : Type 1} → statement M
+stands-at-spec =
+    tie.close
+    (tie.spec
+    Inv-loop
+    μ-loop
+    (λ c. (search needs, rest-all (c .before .args .memory .now) (c .before .args .words .now) (c .before .args .free .now) (c .before .args .b) (c .before .args .len), rw (zero-less (c .before .args .len)) (c .before .pre .3)))
+    (λ c. search needs)
+    (λ c. search needs)
+    (λ c. search needs)
+    (λ c. search needs)
+    (λ c. search needs)
+    (λ c. search needs)
+    (λ c κs. formed-step (c .before .before .before .before .before .before .args .memory .now) (c .before .before .before .before .before .before .args .words .now) (c .before .before .before .before .before .before .args .free .now) (c .before .before .before .before .before .before .args .b) (c .before .before .before .before .before .before .args .len) _ (c .before .before .before .loop-test .taken) (c .before .before .before .before .loop .inv .2) .0)
+    (λ c. sym (c .before .before .before .before .before .before .loop .inv .1 ∙ rest-step (c .before .before .before .before .before .before .before .before .args .memory .now) (c .before .before .before .before .before .before .before .before .args .words .now) (c .before .before .before .before .before .before .before .before .args .free .now) (c .before .before .before .before .before .before .before .before .args .b) (c .before .before .before .before .before .before .before .before .args .len) _ (c .before .before .before .before .before .loop-test .taken) ∙ rw (← c .before .word-fits .ensures, not-true (c .before .word-fits .result) (c .if1 .taken))))
+    (λ c. search needs)
+    (λ c. search needs)
+    (λ c. (search needs, c .before .before .before .before .before .before .loop .inv .1 ∙ rest-step (c .before .before .before .before .before .before .before .before .args .memory .now) (c .before .before .before .before .before .before .before .before .args .words .now) (c .before .before .before .before .before .before .before .before .args .free .now) (c .before .before .before .before .before .before .before .before .args .b) (c .before .before .before .before .before .before .before .before .args .len) _ (c .before .before .before .before .before .loop-test .taken) ∙ rw (← c .before .word-fits .ensures, not-false (c .before .word-fits .result) (c .if1 .left)), formed-step (c .before .before .before .before .before .before .before .before .args .memory .now) (c .before .before .before .before .before .before .before .before .args .words .now) (c .before .before .before .before .before .before .before .before .args .free .now) (c .before .before .before .before .before .before .before .before .args .b) (c .before .before .before .before .before .before .before .before .args .len) _ (c .before .before .before .before .before .loop-test .taken) (c .before .before .before .before .before .before .loop .inv .2) .1))
+    (λ c. rest-none (c .before .before .before .args .memory .now) (c .before .before .before .args .words .now) (c .before .before .before .args .free .now) (c .before .before .before .args .b) (c .before .before .before .args .len) _ (omega arith) ∙ sym (c .before .loop .inv .1)))
