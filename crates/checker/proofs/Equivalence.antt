@@ -10,8 +10,7 @@ use lib.ListN.{length}
 use lib.Dec.{ltb, leb, eqb}
 use borrow.Author.Tests.{ltb-true, lt-ltb, leb-true, leb-false, le-leb, lt-leb, eqb-true, eq-eqb, not-true, not-false}
 use Rattle.lists.specs.Search.{any}
-use Rattle.lists.proofs.Bools.{and-left, and-right, and-rest, or-left, or-right, both-true, true-false}
-use Rattle.lists.proofs.Tests.{refuted, either}
+use Rattle.lists.proofs.Bools.{and-left, and-right, and-rest, or-left, or-right, both-true, true-false, refuted, either}
 use Rattle.lists.proofs.Search.{any-witness, any-none}
 use Rattle.isa.specs.declared.Instr.{Instr}
 use Rattle.isa.specs.declared.Technique.{Technique}

@@ -1,3 +1,4 @@
 pub mod Verdicts
 pub mod Conditions
 pub mod Theorems
+pub mod Steps

@@ -3,8 +3,9 @@ ghost use mathlib.Core.Path.{_≡_};
 ghost use Prim.Native.Nat.{_≤_};
 ghost use Rattle.lists.specs.Tables.{Table};
 ghost use Rattle.graph.specs.Claim.{edgeCount, idOf};
-ghost use Rattle.graph.specs.Passes.{Sized, Owned};
-ghost use Rattle.checker.specs.Verdicts.{firstBroken, graphRules, labelRules, guardRules, verdictOf};
+ghost use Rattle.graph.specs.Passes.{Sized, Within, Owned};
+ghost use Rattle.checker.specs.Verdicts.{firstBroken, guardRules, verdictOf};
+ghost use Rattle.checker.specs.Steps.{fromEdges, fromSets, fromLabels};
 
 mod branches;
 mod code;
@@ -39,15 +40,15 @@ pub fn check(technique: Technique, memory: &[u64], n: usize, edges: &[u16]) -> V
     ensures { λ r. ⌜ r ≡ verdictOf technique (now (memory .entry)) n (now (edges .entry)) ⌝ }
 {
     if both(memory_shaped(memory.len(), n), edges_shaped(edges.len())) {
-        return check_graph(technique, memory, n, edges);
+        return check_edges(technique, memory, n, edges);
     }
     Verdict::Refused(Refusal::Shape, Place::Nowhere)
 }
 
-// Rules 7 to 10, and the others after them.
-fn check_graph(technique: Technique, memory: &[u64], n: usize, edges: &[u16]) -> Verdict
+// Rules 7 and 8, and those after them.
+fn check_edges(technique: Technique, memory: &[u64], n: usize, edges: &[u16]) -> Verdict
     requires { ⌜ Sized (now memory) n × (edgeCount (now edges) ≤ 2048) ⌝ }
-    ensures { λ r. ⌜ r ≡ firstBroken (graphRules (now (memory .entry)) n (now (edges .entry)) (labelRules (now (memory .entry)) n (now (edges .entry)) (guardRules technique (now (memory .entry)) n (now (edges .entry))))) ⌝ }
+    ensures { λ r. ⌜ r ≡ firstBroken (fromEdges technique (now (memory .entry)) n (now (edges .entry))) ⌝ }
 {
     let m = edges.len() / 2;
     let e = first_from_no_jump(memory, n, edges);
@@ -58,6 +59,14 @@ fn check_graph(technique: Technique, memory: &[u64], n: usize, edges: &[u16]) ->
     if f < m {
         return Verdict::Refused(Refusal::TargetOutsideCode, Place::Edge(f));
     }
+    check_sets(technique, memory, n, edges)
+}
+
+// Rules 9 and 10, and those after them.
+fn check_sets(technique: Technique, memory: &[u64], n: usize, edges: &[u16]) -> Verdict
+    requires { ⌜ Sized (now memory) n × Within (now edges) n ⌝ }
+    ensures { λ r. ⌜ r ≡ firstBroken (fromSets technique (now (memory .entry)) n (now (edges .entry))) ⌝ }
+{
     let mut id = [0u16; 2048];
     lowest_targets(edges, n, &mut id);
     let a = first_without_edge(memory, n, edges, &id);
@@ -73,7 +82,7 @@ fn check_graph(technique: Technique, memory: &[u64], n: usize, edges: &[u16]) ->
     check_labels(technique, memory, n, edges, &id, &own)
 }
 
-// Rules 11 and 12, and the others after them.
+// Rules 11 and 12, and those after them.
 fn check_labels(
     technique: Technique,
     memory: &[u64],
@@ -83,7 +92,7 @@ fn check_labels(
     own: &[u16; 2048],
 ) -> Verdict
     requires { ⌜ Sized (now memory) n × Table (now id) n (idOf (now edges) n) × Owned (now edges) n (now own) ⌝ }
-    ensures { λ r. ⌜ r ≡ firstBroken (labelRules (now (memory .entry)) n (now (edges .entry)) (guardRules technique (now (memory .entry)) n (now (edges .entry)))) ⌝ }
+    ensures { λ r. ⌜ r ≡ firstBroken (fromLabels technique (now (memory .entry)) n (now (edges .entry))) ⌝ }
 {
     if !illegal_at(memory, n - 1) {
         return Verdict::Refused(Refusal::LastWordLegal, Place::Address(n - 1));

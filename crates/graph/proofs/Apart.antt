@@ -4,8 +4,7 @@ use mathlib.Core.Path.{_≡_, refl}
 use mathlib.Core.Bool.{Bool, true, false, not, _&&_, Bool·beq}
 use mathlib.Core.List.{List}
 use borrow.Author.Tests.{not-true}
-use Rattle.lists.proofs.Bools.{clash, and-left, and-right, and-rest, both-true, true-false, same-bool}
-use Rattle.lists.proofs.Tests.{refuted}
+use Rattle.lists.proofs.Bools.{clash, and-left, and-right, and-rest, both-true, true-false, same-bool, refuted}
 use Rattle.lists.proofs.Search.{any-hit, any-witness, any-none}
 use Rattle.graph.specs.Claim.{isEdge}
 use Rattle.graph.specs.Rules.{setsMeet, setsDiffer, overlaps}

@@ -1,6 +1,7 @@
--- Laws of tests: what a joined test says of its parts, and picks whose two sides agree.
+-- Laws of tests: what joined tests say of their parts, and the other way.
 use mathlib.Core.Path.{_≡_, refl, sym}
-use mathlib.Core.Bool.{Bool, true, false, cond, _&&_, _||_}
+use mathlib.Core.Logic.{_⊎_, inl, inr}
+use mathlib.Core.Bool.{Bool, true, false, _&&_, _||_}
 use Prim.Native.Nat.{ℕ}
 use native.Mathlib.Omega.{arith}
 
@@ -21,10 +22,6 @@ and-four true true true s h = (refl, refl, refl, h)
 and-four true true false s h = clash (cc)
 and-four true false r s h = clash (cc)
 and-four false q r s h = clash (cc)
-
-pub cond-same : {A : Type 0} (b : Bool) (x : A) → cond b x x ≡ x
-cond-same true x = refl
-cond-same false x = refl
 
 pub true-false : {b : Bool} → b ≡ true → b ≡ false → ⊥
 true-false p q = clash (cc)
@@ -56,3 +53,11 @@ or-right false b e = e
 pub and-under : (a b c : Bool) → (a ≡ true → b ≡ c) → (a && b) ≡ (a && c)
 and-under true b c h = h refl
 and-under false b c h = refl
+
+pub either : (a b : Bool) → (a || b) ≡ true → (a ≡ true) ⊎ (b ≡ true)
+either true b e = inl refl
+either false b e = inr e
+
+pub refuted : (b : Bool) → (b ≡ true → ⊥) → b ≡ false
+refuted true h = absurd (h refl)
+refuted false h = refl

@@ -9,7 +9,7 @@ use lib.Dec.{ltb}
 use lib.ListN.{length, take, drop, length-drop}
 use lib.Seq.{length-take-le}
 use borrow.Author.Tests.{le-ltb, ltb-false}
-use Rattle.lists.proofs.Bools.{clash}
+use Rattle.lists.proofs.Bools.{or-right}
 use Rattle.answers.specs.declared.Refusal.{Refusal}
 use Rattle.parcel.specs.Bytes.{numberOf}
 use Rattle.parcel.specs.Parcel.{countOf, readOf}
@@ -33,10 +33,6 @@ drop-front (suc at) (suc k) [] h = take-nil (suc k - suc at)
     take-nil zero = refl
     take-nil (suc j) = refl
 drop-front (suc at) (suc k) (x ∷ u) h = let e : suc k - suc at ≡ k - at = omega arith in rw e (drop-front at k u (omega arith))
-
-or-right : (a b : Bool) → (a || b) ≡ false → b ≡ false
-or-right true b h = clash (cc)
-or-right false b h = h
 
 -- a count in a front that has room for all that the section may hold
 front-count : (size low j : ℕ) (u : List ℕ) → 4 + 2048 * size ≤ j → j ≤ length u

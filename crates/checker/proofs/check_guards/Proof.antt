@@ -13,7 +13,35 @@ check-guards-spec =
     (λ c κs. search needs)
     (λ c. sym (broken _ _ _ (c .before .first-bare-store .ensures) (c .if1 .taken)))
     (λ c κs. search needs)
-    (λ c. sym (kept _ _ _ (c .before .before .before .first-bare-store .ensures) (c .before .before .if1 .left) ∙ broken _ _ _ (c .before .first-bare-jump .ensures) (c .if2 .taken)))
-    (λ c κs. (c .before .before .before .before .before .before .pre .0 .code-limit, c .before .before .before .before .before .before .pre .0 .code-within, record { stores = clean-of _ _ _ (c .before .before .before .first-bare-store .ensures) (c .before .before .if1 .left); jumps = clean-of _ _ _ (c .before .first-bare-jump .ensures) (c .if2 .left) }))
-    (λ c. sym (kept _ _ _ (c .before .before .before .before .before .first-bare-store .ensures) (c .before .before .before .before .if1 .left) ∙ kept _ _ _ (c .before .before .before .first-bare-jump .ensures) (c .before .before .if2 .left) ∙ broken _ _ _ (c .before .first-wrong-branch .ensures) (c .if3 .taken)))
-    (λ c. sym (kept _ _ _ (c .before .before .before .before .before .first-bare-store .ensures) (c .before .before .before .before .if1 .left) ∙ kept _ _ _ (c .before .before .before .first-bare-jump .ensures) (c .before .before .if2 .left) ∙ kept _ _ _ (c .before .first-wrong-branch .ensures) (c .if3 .left) ∙ no-rule)))
+    (λ c.
+    let first-bare-store = c .before .before .before .first-bare-store in
+    let if1 = c .before .before .if1 in
+    sym (kept _ _ _ (first-bare-store .ensures) (if1 .left) ∙ broken _ _ _ (c .before .first-bare-jump .ensures)
+    (c .if2 .taken)))
+    (λ c κs.
+    let entry = c .before .before .before .before .before .before in
+    let first-bare-store = c .before .before .before .first-bare-store in
+    let if1 = c .before .before .if1 in (
+      entry .pre .0 .code-limit,
+      entry .pre .0 .code-within,
+      record {
+        stores = clean-of _ _ _
+            (first-bare-store .ensures) (if1 .left);
+        jumps = clean-of _ _ _ (c .before .first-bare-jump .ensures)
+            (c .if2 .left);
+      },
+    ))
+    (λ c.
+    let first-bare-store = c .before .before .before .before .before .first-bare-store in
+    let if1 = c .before .before .before .before .if1 in
+    let first-bare-jump = c .before .before .before .first-bare-jump in
+    let if2 = c .before .before .if2 in
+    sym (kept _ _ _ (first-bare-store .ensures) (if1 .left) ∙ kept _ _ _ (first-bare-jump .ensures) (if2 .left)
+    ∙ broken _ _ _ (c .before .first-wrong-branch .ensures) (c .if3 .taken)))
+    (λ c.
+    let first-bare-store = c .before .before .before .before .before .first-bare-store in
+    let if1 = c .before .before .before .before .if1 in
+    let first-bare-jump = c .before .before .before .first-bare-jump in
+    let if2 = c .before .before .if2 in
+    sym (kept _ _ _ (first-bare-store .ensures) (if1 .left) ∙ kept _ _ _ (first-bare-jump .ensures) (if2 .left)
+    ∙ kept _ _ _ (c .before .first-wrong-branch .ensures) (c .if3 .left) ∙ no-rule)))

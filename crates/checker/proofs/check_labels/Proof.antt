@@ -15,6 +15,15 @@ check-labels-spec =
     (λ c. search needs)
     (λ c. sym (broken-once _ _ _ _ (ap not (sym (c .before .illegal-at .ensures)) ∙ c .if1 .taken)))
     (λ c κs. search needs)
-    (λ c. sym (kept-once _ _ _ _ (ap not (sym (c .before .before .before .illegal-at .ensures)) ∙ c .before .before .if1 .left) ∙ broken _ _ _ (c .before .first-label-wrong .ensures) (c .if2 .taken)))
+    (λ c.
+    let illegal-at = c .before .before .before .illegal-at in
+    let if1 = c .before .before .if1 in
+    sym (kept-once _ _ _ _ (ap not (sym (illegal-at .ensures)) ∙ if1 .left) ∙ broken _ _ _
+    (c .before .first-label-wrong .ensures) (c .if2 .taken)))
     (λ c κs. search needs)
-    (λ c. c .check-guards .ensures ∙ sym (kept-once _ _ _ _ (ap not (sym (c .before .before .before .before .illegal-at .ensures)) ∙ c .before .before .before .if1 .left) ∙ kept _ _ _ (c .before .before .first-label-wrong .ensures) (c .before .if2 .left))))
+    (λ c.
+    let illegal-at = c .before .before .before .before .illegal-at in
+    let if1 = c .before .before .before .if1 in
+    let first-label-wrong = c .before .before .first-label-wrong in
+    c .check-guards .ensures ∙ sym (kept-once _ _ _ _ (ap not (sym (illegal-at .ensures)) ∙ if1 .left) ∙ kept _ _ _
+    (first-label-wrong .ensures) (c .before .if2 .left))))

@@ -21,14 +21,45 @@ ends-near-spec =
     (tie.spec
     Inv-loop
     μ-loop
-    (λ c. near-none (endingKind (c .before .before .args .store)) (c .before .before .args .memory .now) (c .before .before .args .len) (c .before .before .args .w) _ _ (near-before (endingKind (c .before .before .args .store)) (c .before .before .args .memory .now) (c .before .before .args .len) (c .before .before .args .w)) (λ x l q. absurd (let z = c .if1 .taken in omega arith)))
+    (λ c.
+    let entry = c .before .before in
+    near-none (endingKind (entry .args .store)) (entry .args .memory .now) (entry .args .len) (entry .args .w) _ _
+    (near-before (endingKind (entry .args .store)) (entry .args .memory .now) (entry .args .len) (entry .args .w))
+    (λ x l q. absurd (let z = c .if1 .taken in omega arith)))
     (λ c. search needs)
     (λ c. search needs)
     (λ c κs. search needs)
-    (λ c. (search needs, let z = c .lesser .ensures in let y = c .before .if1 .left in let x = c .before .before .before .pre .2 in omega arith, near-before (endingKind (c .before .before .before .args .store)) (c .before .before .before .args .memory .now) (c .before .before .before .args .len) (c .before .before .before .args .w)))
+    (λ c.
+    let entry = c .before .before .before in (
+      search needs,
+      let z = c .lesser .ensures in let y = c .before .if1 .left in let x = entry .pre .2 in omega arith,
+      near-before
+          (endingKind (entry .args .store)) (entry .args .memory .now) (entry .args .len) (entry .args .w),
+    ))
     (λ c κs. search needs)
-    (λ c. near-hit (endingKind (c .before .before .before .before .before .before .before .args .store)) (c .before .before .before .before .before .before .before .args .memory .now) (c .before .before .before .before .before .before .before .args .len) (c .before .before .before .before .before .before .before .args .w) _ _ (let z = c .before .before .before .before .lesser .ensures in let y = c .before .before .loop-test .taken in omega arith) (c .before .before .before .loop .inv .0) (let z = c .before .before .before .before .lesser .ensures in let y = c .before .before .loop-test .taken in let x = c .before .before .before .before .before .before .before .pre .2 in omega arith) (sym (c .before .kind-at .ensures) ∙ c .if2 .taken))
+    (λ c.
+    let entry = c .before .before .before .before .before .before .before in
+    let lesser = c .before .before .before .before .lesser in
+    let loop = c .before .before .before .loop in
+    let test = c .before .before .loop-test in
+    near-hit (endingKind (entry .args .store)) (entry .args .memory .now) (entry .args .len) (entry .args .w) _ _
+    (let z = lesser .ensures in let y = test .taken in omega arith) (loop .inv .0)
+    (let z = lesser .ensures in let y = test .taken in let x = entry .pre .2 in omega arith) (sym
+    (c .before .kind-at .ensures) ∙ c .if2 .taken))
     (λ c. search needs)
     (λ c. search needs)
-    (λ c. (search needs, search needs, clean-more _ _ (c .before .before .before .loop .inv .2) (near-not (endingKind (c .before .before .before .before .before .before .before .args .store)) (c .before .before .before .before .before .before .before .args .memory .now) (c .before .before .before .before .before .before .before .args .len) (c .before .before .before .before .before .before .before .args .w) _ (sym (c .before .kind-at .ensures) ∙ c .if2 .left))))
-    (λ c. near-none (endingKind (c .before .before .before .before .before .args .store)) (c .before .before .before .before .before .args .memory .now) (c .before .before .before .before .before .args .len) (c .before .before .before .before .before .args .w) _ _ (c .before .loop .inv .2) (λ x l q. let z = c .before .before .lesser .ensures in let y = c .loop-test .left in let v = c .before .before .before .before .before .pre .2 in omega arith)))
+    (λ c.
+    let entry = c .before .before .before .before .before .before .before in
+    let loop = c .before .before .before .loop in (
+      search needs,
+      search needs,
+      clean-more _ _ (loop .inv .2) (near-not (endingKind (entry .args .store))
+          (entry .args .memory .now) (entry .args .len) (entry .args .w) _ (sym (c .before .kind-at .ensures)
+          ∙ c .if2 .left)),
+    ))
+    (λ c.
+    let entry = c .before .before .before .before .before in
+    let lesser = c .before .before .lesser in
+    near-none (endingKind (entry .args .store)) (entry .args .memory .now) (entry .args .len) (entry .args .w) _ _
+    (c .before .loop .inv .2)
+    (λ x l q. let z = lesser .ensures in let y = c .loop-test .left in let v = entry .pre .2 in omega arith)))

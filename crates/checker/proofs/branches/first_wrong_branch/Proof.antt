@@ -24,8 +24,21 @@ first-wrong-branch-spec =
     μ-loop
     (λ c. (search needs, clean-none _))
     (λ c κs. search needs)
-    (λ c. lowest-at _ _ _ (c .before .before .loop-test .taken) (c .before .before .before .loop .inv .1) (sym (branch-wrong (c .before .before .before .before .before .before .args .technique) (c .before .before .before .before .before .before .args .memory .now) (c .before .before .before .before .before .before .args .n) (c .before .before .before .before .before .before .args .edges .now) (instrAt (c .before .before .before .before .before .before .args .memory .now) (c .before .before .before .loop .a)) (c .before .before .before .before .before .before .pre .2)) ∙ sym (c .before .is-wrong-branch .ensures) ∙ c .if1 .taken))
+    (λ c.
+    let entry = c .before .before .before .before .before .before in
+    let loop = c .before .before .before .loop in
+    let test = c .before .before .loop-test in
+    lowest-at _ _ _ (test .taken) (loop .inv .1) (sym (branch-wrong (entry .args .technique)
+    (entry .args .memory .now) (entry .args .n) (entry .args .edges .now) (instrAt (entry .args .memory .now)
+    (loop .a)) (entry .pre .2)) ∙ sym (c .before .is-wrong-branch .ensures) ∙ c .if1 .taken))
     (λ c. search needs)
     (λ c. search needs)
-    (λ c. (search needs, clean-more _ _ (c .before .before .before .loop .inv .1) (sym (branch-wrong (c .before .before .before .before .before .before .args .technique) (c .before .before .before .before .before .before .args .memory .now) (c .before .before .before .before .before .before .args .n) (c .before .before .before .before .before .before .args .edges .now) (instrAt (c .before .before .before .before .before .before .args .memory .now) (c .before .before .before .loop .a)) (c .before .before .before .before .before .before .pre .2)) ∙ sym (c .before .is-wrong-branch .ensures) ∙ c .if1 .left)))
+    (λ c.
+    let entry = c .before .before .before .before .before .before in
+    let loop = c .before .before .before .loop in (
+      search needs,
+      clean-more _ _ (loop .inv .1) (sym (branch-wrong (entry .args .technique)
+          (entry .args .memory .now) (entry .args .n) (entry .args .edges .now) (instrAt (entry .args .memory .now)
+          (loop .a)) (entry .pre .2)) ∙ sym (c .before .is-wrong-branch .ensures) ∙ c .if1 .left),
+    ))
     (λ c. lowest-none _ _ _ (omega arith) (c .before .loop .inv .1)))

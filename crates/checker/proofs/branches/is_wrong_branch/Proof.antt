@@ -18,5 +18,15 @@ is-wrong-branch-spec =
     (λ c. search needs)
     (λ c κs. search needs)
     (λ c κs. search needs)
-    (λ c. c .is-wrong-target .ensures ∙ sym (ap (targetBadIfAny (c .before .before .before .before .before .args .technique) (c .before .before .before .before .before .args .memory .now) (c .before .before .before .before .before .args .n)) (branch-low (getD (c .before .before .before .before .before .args .memory .now) (c .before .before .before .before .before .args .a) 0) (sym (c .before .before .is-branch .ensures) ∙ c .before .if1 .taken))))
-    (λ c. sym (ap (targetBadIfAny (c .before .before .before .before .args .technique) (c .before .before .before .before .args .memory .now) (c .before .before .before .before .args .n)) (let h = sym (c .before .is-branch .ensures) ∙ c .if1 .left in no-branch (instrAt (c .before .before .before .before .args .memory .now) (c .before .before .before .before .args .a)) (or-left _ (isKind Kind.Jd (instrAt (c .before .before .before .before .args .memory .now) (c .before .before .before .before .args .a))) h) (or-right (isKind Kind.Bgt (instrAt (c .before .before .before .before .args .memory .now) (c .before .before .before .before .args .a))) _ h)))))
+    (λ c.
+    let entry = c .before .before .before .before .before in
+    let is-branch = c .before .before .is-branch in
+    c .is-wrong-target .ensures ∙ sym (ap (targetBadIfAny (entry .args .technique) (entry .args .memory .now)
+    (entry .args .n)) (branch-low (getD (entry .args .memory .now) (entry .args .a) 0) (sym (is-branch .ensures)
+    ∙ c .before .if1 .taken))))
+    (λ c.
+    let entry = c .before .before .before .before in
+    sym (ap (targetBadIfAny (entry .args .technique) (entry .args .memory .now) (entry .args .n)) (let h = sym
+    (c .before .is-branch .ensures) ∙ c .if1 .left in no-branch (instrAt (entry .args .memory .now)
+    (entry .args .a)) (or-left _ (isKind Kind.Jd (instrAt (entry .args .memory .now) (entry .args .a))) h) (or-right
+    (isKind Kind.Bgt (instrAt (entry .args .memory .now) (entry .args .a))) _ h)))))

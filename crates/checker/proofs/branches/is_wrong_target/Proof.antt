@@ -14,7 +14,14 @@ is-wrong-target-spec =
     (λ c. search needs)
     (λ c. rw (c .before .enum-told2 .given .1, le-leb _ _ (c .if1 .taken)))
     (λ c κs. search needs)
-    (λ c. rw (c .before .before .before .enum-told2 .given .1, ← c .before .ends-near2 .ensures, c .if2 .taken, or-true))
+    (λ c.
+    let enum-told2 = c .before .before .before .enum-told2 in
+    rw (enum-told2 .given .1, ← c .before .ends-near2 .ensures, c .if2 .taken, or-true))
     (λ c κs. search needs)
     (λ c. rw (c .before .enum-told .given .1) (c .ends-near .ensures))
-    (λ c. rw (c .before .before .before .before .enum-told2 .given .1, lt-leb _ _ (c .before .before .before .if1 .left), ← c .before .before .ends-near2 .ensures, c .before .if2 .left) (c .ends-near3 .ensures)))
+    (λ c.
+    let enum-told2 = c .before .before .before .before .enum-told2 in
+    let if1 = c .before .before .before .if1 in
+    let ends-near2 = c .before .before .ends-near2 in
+    rw (enum-told2 .given .1, lt-leb _ _ (if1 .left), ← ends-near2 .ensures, c .before .if2 .left)
+    (c .ends-near3 .ensures)))

@@ -13,4 +13,6 @@ jump-at-spec =
     (λ c. search needs)
     (λ c. search needs)
     (λ c κs. search needs)
-    (λ c. c .is-a .ensures ∙ jump-kind (instrAt (c .before .before .before .args .memory .now) (c .before .before .before .args .a))))
+    (λ c.
+    let entry = c .before .before .before in
+    c .is-a .ensures ∙ jump-kind (instrAt (entry .args .memory .now) (entry .args .a))))

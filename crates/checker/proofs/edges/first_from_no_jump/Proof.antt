@@ -22,8 +22,13 @@ first-from-no-jump-spec =
     μ-loop
     (λ c. (search needs, clean-none _))
     (λ c κs. search needs)
-    (λ c. lowest-at _ _ _ (c .before .before .loop-test .taken) (c .before .before .before .loop .inv .1) (sym (c .before .starts-at-no-jump .ensures) ∙ c .if1 .taken))
+    (λ c.
+    let loop = c .before .before .before .loop in
+    let test = c .before .before .loop-test in
+    lowest-at _ _ _ (test .taken) (loop .inv .1) (sym (c .before .starts-at-no-jump .ensures) ∙ c .if1 .taken))
     (λ c. search needs)
     (λ c. search needs)
-    (λ c. (search needs, clean-more _ _ (c .before .before .before .loop .inv .1) (sym (c .before .starts-at-no-jump .ensures) ∙ c .if1 .left)))
+    (λ c.
+    let loop = c .before .before .before .loop in
+    (search needs, clean-more _ _ (loop .inv .1) (sym (c .before .starts-at-no-jump .ensures) ∙ c .if1 .left)))
     (λ c. lowest-none _ _ _ (omega arith) (c .before .loop .inv .1)))

@@ -40,8 +40,24 @@ first-without-edge-spec =
     (λ c. search needs)
     (λ c. search needs)
     (λ c κs. search needs)
-    (λ c. lowest-at _ _ _ (c .before .before .before .before .loop-test .taken) (c .before .before .before .before .before .loop .inv .1) (sym (lacks (c .before .before .before .before .before .before .before .before .args .memory .now) (c .before .before .before .before .before .before .before .before .args .edges .now) (c .before .before .before .before .before .before .before .before .args .id .now) (c .before .before .before .before .before .before .before .before .args .n) (c .before .before .before .before .before .loop .a) _ (c .before .before .before .before .before .before .before .before .pre .1) (c .before .before .before .before .before .before .before .before .pre .2) (c .before .before .before .before .loop-test .taken) _ (c .before .both .ensures) (c .before .before .before .jump-at .ensures)) ∙ c .if1 .taken))
+    (λ c.
+    let entry = c .before .before .before .before .before .before .before .before in
+    let loop = c .before .before .before .before .before .loop in
+    let test = c .before .before .before .before .loop-test in
+    let jump-at = c .before .before .before .jump-at in
+    lowest-at _ _ _ (test .taken) (loop .inv .1) (sym (lacks (entry .args .memory .now) (entry .args .edges .now)
+    (entry .args .id .now) (entry .args .n) (loop .a) _ (entry .pre .1) (entry .pre .2) (test .taken) _
+    (c .before .both .ensures) (jump-at .ensures)) ∙ c .if1 .taken))
     (λ c. search needs)
     (λ c. search needs)
-    (λ c. (search needs, clean-more _ _ (c .before .before .before .before .before .loop .inv .1) (sym (lacks (c .before .before .before .before .before .before .before .before .args .memory .now) (c .before .before .before .before .before .before .before .before .args .edges .now) (c .before .before .before .before .before .before .before .before .args .id .now) (c .before .before .before .before .before .before .before .before .args .n) (c .before .before .before .before .before .loop .a) _ (c .before .before .before .before .before .before .before .before .pre .1) (c .before .before .before .before .before .before .before .before .pre .2) (c .before .before .before .before .loop-test .taken) _ (c .before .both .ensures) (c .before .before .before .jump-at .ensures)) ∙ c .if1 .left)))
+    (λ c.
+    let entry = c .before .before .before .before .before .before .before .before in
+    let loop = c .before .before .before .before .before .loop in
+    let test = c .before .before .before .before .loop-test in
+    let jump-at = c .before .before .before .jump-at in (
+      search needs,
+      clean-more _ _ (loop .inv .1) (sym (lacks (entry .args .memory .now) (entry .args .edges .now)
+          (entry .args .id .now) (entry .args .n) (loop .a) _ (entry .pre .1) (entry .pre .2) (test .taken) _
+          (c .before .both .ensures) (jump-at .ensures)) ∙ c .if1 .left),
+    ))
     (λ c. lowest-none _ _ _ (omega arith) (c .before .loop .inv .1)))

@@ -34,5 +34,16 @@ lowest-targets-spec =
     (λ c. search needs)
     (λ c. search needs)
     (λ c. search needs)
-    (λ c. (search needs, id-step _ _ _ _ _ _ _ (c .before .before .before .before .before .before .before .before .before .pre .0 .small) (c .before .before .before .before .before .loop .inv .1) (c .before .before .before .jump-of .ensures .is) (c .before .before .before .jump-of .ensures .below) (c .before .before .target-of .ensures .is) (c .before .before .target-of .ensures .below) (c .least .ensures)))
-    (λ c. table-as _ (table-upto (idIn (c .before .before .before .before .before .args .edges .now) (c .before .before .before .before .before .args .n)) _ _ (omega arith) (c .before .loop .inv .1)) (λ j l. id-all _ _ j)))
+    (λ c.
+    let entry = c .before .before .before .before .before .before .before .before .before in
+    let loop = c .before .before .before .before .before .loop in
+    let jump-of = c .before .before .before .jump-of in
+    let target-of = c .before .before .target-of in (
+      search needs,
+      id-step _ _ _ _ _ _ _ (entry .pre .0 .small) (loop .inv .1) (jump-of .ensures .is)
+          (jump-of .ensures .below) (target-of .ensures .is) (target-of .ensures .below) (c .least .ensures),
+    ))
+    (λ c.
+    let entry = c .before .before .before .before .before in
+    table-as _ (table-upto (idIn (entry .args .edges .now) (entry .args .n)) _ _ (omega arith)
+    (c .before .loop .inv .1)) (λ j l. id-all _ _ j)))

@@ -9,4 +9,6 @@ target-of-spec =
     tie.close
     (tie.spec
     (λ c κs. search needs)
-    (λ c. let p = c .before .before .pre in omega (arith, p .0 .targets (c .before .before .args .k) (p .1))))
+    (λ c.
+    let entry = c .before .before in
+    let p = entry .pre in omega (arith, p .0 .targets (entry .args .k) (p .1))))

@@ -27,8 +27,20 @@ first-label-wrong-spec =
     (λ c. search needs)
     (λ c. search needs)
     (λ c κs. search needs)
-    (λ c. lowest-at _ _ _ (c .before .before .before .before .loop-test .taken) (c .before .before .before .before .before .loop .inv .1) (sym (label-wrong (c .before .before .before .before .before .before .before .before .args .memory .now) _ _ _ (c .before .before .before .before .before .before .before .before .pre .1) _ (c .before .before .before .before .loop-test .taken)) ∙ sym (c .before .is-amiss .ensures) ∙ c .if1 .taken))
+    (λ c.
+    let entry = c .before .before .before .before .before .before .before .before in
+    let loop = c .before .before .before .before .before .loop in
+    let test = c .before .before .before .before .loop-test in
+    lowest-at _ _ _ (test .taken) (loop .inv .1) (sym (label-wrong (entry .args .memory .now) _ _ _
+    (entry .pre .1) _ (test .taken)) ∙ sym (c .before .is-amiss .ensures) ∙ c .if1 .taken))
     (λ c. search needs)
     (λ c. search needs)
-    (λ c. (search needs, clean-more _ _ (c .before .before .before .before .before .loop .inv .1) (sym (label-wrong (c .before .before .before .before .before .before .before .before .args .memory .now) _ _ _ (c .before .before .before .before .before .before .before .before .pre .1) _ (c .before .before .before .before .loop-test .taken)) ∙ sym (c .before .is-amiss .ensures) ∙ c .if1 .left)))
+    (λ c.
+    let entry = c .before .before .before .before .before .before .before .before in
+    let loop = c .before .before .before .before .before .loop in
+    let test = c .before .before .before .before .loop-test in (
+      search needs,
+      clean-more _ _ (loop .inv .1) (sym (label-wrong (entry .args .memory .now) _ _ _
+          (entry .pre .1) _ (test .taken)) ∙ sym (c .before .is-amiss .ensures) ∙ c .if1 .left),
+    ))
     (λ c. lowest-none _ _ _ (omega arith) (c .before .loop .inv .1)))

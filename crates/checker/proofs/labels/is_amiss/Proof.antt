@@ -15,5 +15,12 @@ is-amiss-spec =
     (tie.spec
     (λ c κs. search needs)
     (λ c κs. search needs)
-    (λ c. c .is-other .ensures ∙ sym (ap (λ (o : Option ℕ). labelAmiss o (c .before .before .before .args .owner) (c .before .before .before .args .n)) (label-low (c .before .before .before .args .word) (sym (c .before .before .is-a .ensures) ∙ c .before .if1 .taken))))
-    (λ c. sym (ap (λ (o : Option ℕ). labelAmiss o (c .before .before .args .owner) (c .before .before .args .n)) (no-label (decodeOf (c .before .before .args .word)) (sym (c .before .is-a .ensures) ∙ c .if1 .left)))))
+    (λ c.
+    let entry = c .before .before .before in
+    let is-a = c .before .before .is-a in
+    c .is-other .ensures ∙ sym (ap (λ (o : Option ℕ). labelAmiss o (entry .args .owner) (entry .args .n)) (label-low
+    (entry .args .word) (sym (is-a .ensures) ∙ c .before .if1 .taken))))
+    (λ c.
+    let entry = c .before .before in
+    sym (ap (λ (o : Option ℕ). labelAmiss o (entry .args .owner) (entry .args .n)) (no-label (decodeOf
+    (entry .args .word)) (sym (c .before .is-a .ensures) ∙ c .if1 .left)))))

@@ -12,8 +12,20 @@ ends-at-spec =
     tie.close
     (tie.spec
     (λ c. search needs)
-    (λ c. rw (slots-length (c .before .before .args .words .now) (c .before .before .args .free .now) 0 (c .before .before .args .len), lt-leb _ _ (c .if1 .taken)))
+    (λ c.
+    let entry = c .before .before in
+    rw (
+      slots-length (entry .args .words .now) (entry .args .free .now) 0 (entry .args .len),
+      lt-leb _ _
+          (c .if1 .taken),
+    ))
     (λ c. search needs)
     (λ c. search needs)
     (λ c κs. search needs)
-    (λ c. rw (slots-length (c .before .before .before .args .words .now) (c .before .before .before .args .free .now) 0 (c .before .before .before .args .len), le-leb _ _ (c .before .if1 .left)) (c .stands-at .ensures)))
+    (λ c.
+    let entry = c .before .before .before in
+    rw (
+      slots-length (entry .args .words .now) (entry .args .free .now) 0 (entry .args .len),
+      le-leb _ _
+          (c .before .if1 .left),
+    ) (c .stands-at .ensures)))

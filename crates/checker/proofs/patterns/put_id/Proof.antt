@@ -13,4 +13,7 @@ put-id-spec =
     (λ c κs. search needs)
     (λ c. omega (arith, id-place-low (c .before .before .args .technique), c .before .id-place .ensures))
     (λ c. omega (arith, id-place-low (c .before .before .args .technique), c .before .id-place .ensures))
-    (λ c. rw (c .before .before .pre .are, c .before .id-place .ensures, c .encode .ensures) (id-put (c .before .before .args .technique) (c .before .before .args .n) (c .before .before .pre .id) (c .before .before .args .id))))
+    (λ c.
+    let entry = c .before .before in
+    rw (entry .pre .are, c .before .id-place .ensures, c .encode .ensures) (id-put (entry .args .technique)
+    (entry .args .n) (entry .pre .id) (entry .args .id))))

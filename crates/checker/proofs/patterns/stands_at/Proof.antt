@@ -25,16 +25,53 @@ stands-at-spec =
     (tie.spec
     Inv-loop
     μ-loop
-    (λ c. (search needs, rest-all (c .before .args .memory .now) (c .before .args .words .now) (c .before .args .free .now) (c .before .args .b) (c .before .args .len), rw (zero-less (c .before .args .len)) (c .before .pre .3)))
+    (λ c.
+    let entry = c .before in (
+      search needs,
+      rest-all (entry .args .memory .now) (entry .args .words .now) (entry .args .free .now)
+          (entry .args .b) (entry .args .len),
+      rw (zero-less (entry .args .len)) (entry .pre .3),
+    ))
     (λ c. search needs)
     (λ c. search needs)
     (λ c. search needs)
     (λ c. search needs)
     (λ c. search needs)
     (λ c. search needs)
-    (λ c κs. formed-step (c .before .before .before .before .before .before .args .memory .now) (c .before .before .before .before .before .before .args .words .now) (c .before .before .before .before .before .before .args .free .now) (c .before .before .before .before .before .before .args .b) (c .before .before .before .before .before .before .args .len) _ (c .before .before .before .loop-test .taken) (c .before .before .before .before .loop .inv .2) .0)
-    (λ c. sym (c .before .before .before .before .before .before .loop .inv .1 ∙ rest-step (c .before .before .before .before .before .before .before .before .args .memory .now) (c .before .before .before .before .before .before .before .before .args .words .now) (c .before .before .before .before .before .before .before .before .args .free .now) (c .before .before .before .before .before .before .before .before .args .b) (c .before .before .before .before .before .before .before .before .args .len) _ (c .before .before .before .before .before .loop-test .taken) ∙ rw (← c .before .word-fits .ensures, not-true (c .before .word-fits .result) (c .if1 .taken))))
+    (λ c κs.
+    let entry = c .before .before .before .before .before .before in
+    let loop = c .before .before .before .before .loop in
+    let test = c .before .before .before .loop-test in
+    formed-step (entry .args .memory .now) (entry .args .words .now) (entry .args .free .now) (entry .args .b)
+    (entry .args .len) _ (test .taken) (loop .inv .2) .0)
+    (λ c.
+    let entry = c .before .before .before .before .before .before .before .before in
+    let loop = c .before .before .before .before .before .before .loop in
+    let test = c .before .before .before .before .before .loop-test in
+    let word-fits = c .before .word-fits in
+    sym (loop .inv .1 ∙ rest-step (entry .args .memory .now) (entry .args .words .now) (entry .args .free .now)
+    (entry .args .b) (entry .args .len) _ (test .taken) ∙ rw (
+      ← word-fits .ensures,
+      not-true (word-fits .result)
+          (c .if1 .taken),
+    )))
     (λ c. search needs)
     (λ c. search needs)
-    (λ c. (search needs, c .before .before .before .before .before .before .loop .inv .1 ∙ rest-step (c .before .before .before .before .before .before .before .before .args .memory .now) (c .before .before .before .before .before .before .before .before .args .words .now) (c .before .before .before .before .before .before .before .before .args .free .now) (c .before .before .before .before .before .before .before .before .args .b) (c .before .before .before .before .before .before .before .before .args .len) _ (c .before .before .before .before .before .loop-test .taken) ∙ rw (← c .before .word-fits .ensures, not-false (c .before .word-fits .result) (c .if1 .left)), formed-step (c .before .before .before .before .before .before .before .before .args .memory .now) (c .before .before .before .before .before .before .before .before .args .words .now) (c .before .before .before .before .before .before .before .before .args .free .now) (c .before .before .before .before .before .before .before .before .args .b) (c .before .before .before .before .before .before .before .before .args .len) _ (c .before .before .before .before .before .loop-test .taken) (c .before .before .before .before .before .before .loop .inv .2) .1))
-    (λ c. rest-none (c .before .before .before .args .memory .now) (c .before .before .before .args .words .now) (c .before .before .before .args .free .now) (c .before .before .before .args .b) (c .before .before .before .args .len) _ (omega arith) ∙ sym (c .before .loop .inv .1)))
+    (λ c.
+    let entry = c .before .before .before .before .before .before .before .before in
+    let loop = c .before .before .before .before .before .before .loop in
+    let test = c .before .before .before .before .before .loop-test in
+    let word-fits = c .before .word-fits in (
+      search needs,
+      loop .inv .1 ∙ rest-step (entry .args .memory .now) (entry .args .words .now)
+          (entry .args .free .now) (entry .args .b) (entry .args .len) _ (test .taken) ∙ rw (
+            ← word-fits .ensures,
+            not-false (word-fits .result) (c .if1 .left),
+          ),
+      formed-step (entry .args .memory .now) (entry .args .words .now)
+          (entry .args .free .now) (entry .args .b) (entry .args .len) _ (test .taken) (loop .inv .2) .1,
+    ))
+    (λ c.
+    let entry = c .before .before .before in
+    rest-none (entry .args .memory .now) (entry .args .words .now) (entry .args .free .now) (entry .args .b)
+    (entry .args .len) _ (omega arith) ∙ sym (c .before .loop .inv .1)))

@@ -18,10 +18,21 @@ pub word-fits-spec : {M : Type 1} → statement M
 word-fits-spec =
     tie.close
     (tie.spec
-    (λ c. fits-whole (c .before .args .word) (c .before .args .pattern) (c .before .args .free) (c .before .pre) (c .if1 .taken))
-    (λ c. fits-not (c .before .before .args .word) (c .before .before .args .pattern) (c .before .before .args .free) (c .before .before .pre) (let z = c .before .if1 .left in omega arith) (c .if2 .taken))
+    (λ c.
+    let entry = c .before in
+    fits-whole (entry .args .word) (entry .args .pattern) (entry .args .free) (entry .pre) (c .if1 .taken))
+    (λ c.
+    let entry = c .before .before in
+    fits-not (entry .args .word) (entry .args .pattern) (entry .args .free) (entry .pre)
+    (let z = c .before .if1 .left in omega arith) (c .if2 .taken))
     (λ c κs. search needs)
     (λ c. search needs)
     (λ c. search needs)
-    (λ c. omega (arith, immediate-low (leb 2 (c .before .before .before .args .free)) (c .before .before .before .args .word) _ (c .immediate-if .ensures)))
-    (λ c. fits-rest (c .before .before .before .args .word) (c .before .before .before .args .pattern) (c .before .before .before .args .free) (c .before .before .before .pre) _ (let z = c .before .before .if1 .left in omega arith) (c .before .if2 .left) (c .immediate-if .ensures)))
+    (λ c.
+    let entry = c .before .before .before in
+    omega (arith, immediate-low (leb 2 (entry .args .free)) (entry .args .word) _ (c .immediate-if .ensures)))
+    (λ c.
+    let entry = c .before .before .before in
+    let if1 = c .before .before .if1 in
+    fits-rest (entry .args .word) (entry .args .pattern) (entry .args .free) (entry .pre) _
+    (let z = if1 .left in omega arith) (c .before .if2 .left) (c .immediate-if .ensures)))

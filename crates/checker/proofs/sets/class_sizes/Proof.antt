@@ -29,10 +29,30 @@ class-sizes-spec =
     (λ c κs. search needs)
     (λ c. search needs)
     (λ c. search needs)
-    (λ c. omega (arith, c .before .before .before .before .loop .inv .1 .each (c .before .class-of .result) (c .before .class-of .ensures .below), size-max (λ x. getD (c .before .before .before .before .before .args .own .now) x 0) (c .before .before .before .before .before .args .n) (c .before .before .before .before .loop .t) (c .before .class-of .result), c .before .before .before .before .before .pre .0))
+    (λ c.
+    let entry = c .before .before .before .before .before in
+    let loop = c .before .before .before .before .loop in
+    let class-of = c .before .class-of in
+    omega (
+      arith,
+      loop .inv .1 .each (class-of .result) (class-of .ensures .below),
+      size-max (λ x. getD
+          (entry .args .own .now) x 0) (entry .args .n) (loop .t) (class-of .result),
+      entry .pre .0,
+    ))
     (λ c. search needs)
     (λ c. search needs)
     (λ c. search needs)
     (λ c. search needs)
-    (λ c. (search needs, size-step (λ x. getD (c .before .before .before .before .before .args .own .now) x 0) _ _ _ _ _ (c .before .before .before .before .before .pre .0) (c .before .before .before .before .loop .inv .1) (c .before .class-of .ensures .is) (c .before .class-of .ensures .below) refl))
-    (λ c. table-upto (classSize (λ x. getD (c .before .before .args .own .now) x 0) (c .before .before .args .n)) _ _ (omega arith) (c .before .loop .inv .1)))
+    (λ c.
+    let entry = c .before .before .before .before .before in
+    let loop = c .before .before .before .before .loop in
+    let class-of = c .before .class-of in (
+      search needs,
+      size-step (λ x. getD (entry .args .own .now) x 0) _ _ _ _ _ (entry .pre .0) (loop .inv .1)
+          (class-of .ensures .is) (class-of .ensures .below) refl,
+    ))
+    (λ c.
+    let entry = c .before .before in
+    table-upto (classSize (λ x. getD (entry .args .own .now) x 0) (entry .args .n)) _ _ (omega arith)
+    (c .before .loop .inv .1)))

@@ -9,6 +9,11 @@ first-beside-uneven-spec =
     tie.close
     (tie.spec
     (λ c κs. (c .before .before .pre, refl))
-    (λ c κs. (c .before .before .before .before .before .pre .within, c .before .before .flag-uneven .ensures, table-zeros _ (c .before .before .before .before .before .pre .within .small)))
-    (λ c κs. (c .before .before .before .before .before .before .before .pre .within, c .before .taint-targets .ensures))
+    (λ c κs.
+    let entry = c .before .before .before .before .before in
+    let flag-uneven = c .before .before .flag-uneven in
+    (entry .pre .within, flag-uneven .ensures, table-zeros _ (entry .pre .within .small)))
+    (λ c κs.
+    let entry = c .before .before .before .before .before .before .before in
+    (entry .pre .within, c .before .taint-targets .ensures))
     (λ c. c .first-with-taint .ensures))

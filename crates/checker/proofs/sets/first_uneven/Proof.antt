@@ -23,8 +23,17 @@ first-uneven-spec =
     μ-loop
     (λ c. (search needs, clean-none _, stamped-none))
     (λ c κs. search needs)
-    (λ c. lowest-at _ _ _ (c .before .before .before .loop-test .taken) (c .before .before .before .before .loop .inv .1) (sym (c .before .is-uneven .ensures .answers) ∙ c .if1 .taken))
+    (λ c.
+    let loop = c .before .before .before .before .loop in
+    let test = c .before .before .before .loop-test in
+    lowest-at _ _ _ (test .taken) (loop .inv .1) (sym (c .before .is-uneven .ensures .answers) ∙ c .if1 .taken))
     (λ c. search needs)
     (λ c. search needs)
-    (λ c. (search needs, clean-more _ _ (c .before .before .before .before .loop .inv .1) (sym (c .before .is-uneven .ensures .answers) ∙ c .if1 .left), c .before .is-uneven .ensures .stamped))
+    (λ c.
+    let loop = c .before .before .before .before .loop in
+    let is-uneven = c .before .is-uneven in (
+      search needs,
+      clean-more _ _ (loop .inv .1) (sym (is-uneven .ensures .answers) ∙ c .if1 .left),
+      is-uneven .ensures .stamped,
+    ))
     (λ c. lowest-none _ _ _ (omega arith) (c .before .loop .inv .1)))

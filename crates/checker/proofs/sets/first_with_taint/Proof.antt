@@ -30,5 +30,17 @@ first-with-taint-spec =
     (λ c κs. search needs)
     (λ c. search needs)
     (λ c. search needs)
-    (λ c. (search needs, suspect-step _ _ _ _ _ _ _ (c .before .before .before .before .before .loop .inv .1) (c .before .before .before .jump-of .ensures .is) (c .before .before .before .jump-of .ensures .below) (c .before .before .before .before .before .before .before .pre .1 .each _ (c .before .before .target-of .ensures .below) ∙ ap (taint (c .before .before .before .before .before .before .before .args .edges .now) (c .before .before .before .before .before .before .before .args .n) (edgeCount (c .before .before .before .before .before .before .before .args .edges .now))) (c .before .before .target-of .ensures .is)) (c .lower-if .ensures)))
-    (λ c. c .before .loop .inv .1 ∙ ap (λ (k : ℕ). lowest (suspect (c .before .before .before .args .edges .now) (c .before .before .before .args .n) k) (c .before .before .before .args .n)) (omega arith)))
+    (λ c.
+    let entry = c .before .before .before .before .before .before .before in
+    let loop = c .before .before .before .before .before .loop in
+    let jump-of = c .before .before .before .jump-of in
+    let target-of = c .before .before .target-of in (
+      search needs,
+      suspect-step _ _ _ _ _ _ _ (loop .inv .1) (jump-of .ensures .is) (jump-of .ensures .below)
+          (entry .pre .1 .each _ (target-of .ensures .below) ∙ ap (taint (entry .args .edges .now) (entry .args .n)
+          (edgeCount (entry .args .edges .now))) (target-of .ensures .is)) (c .lower-if .ensures),
+    ))
+    (λ c.
+    let entry = c .before .before .before in
+    c .before .loop .inv .1 ∙ ap (λ (k : ℕ). lowest (suspect (entry .args .edges .now) (entry .args .n) k)
+    (entry .args .n)) (omega arith)))

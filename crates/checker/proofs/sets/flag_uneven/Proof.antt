@@ -29,5 +29,12 @@ flag-uneven-spec =
     (λ c. search needs)
     (λ c. search needs)
     (λ c. search needs)
-    (λ c. (search needs, table-more _ _ (c .before .before .before .before .loop .inv .1) (search needs) (c .flag .ensures ∙ ap bit (c .before .is-uneven .ensures .answers)), c .before .is-uneven .ensures .stamped))
+    (λ c.
+    let loop = c .before .before .before .before .loop in
+    let is-uneven = c .before .is-uneven in (
+      search needs,
+      table-more _ _ (loop .inv .1) (search needs) (c .flag .ensures ∙ ap bit
+          (is-uneven .ensures .answers)),
+      is-uneven .ensures .stamped,
+    ))
     (λ c. table-full _ _ (omega arith) (c .before .loop .inv .1)))

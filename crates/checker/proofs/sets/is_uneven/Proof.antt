@@ -27,14 +27,58 @@ is-uneven-spec =
     (tie.spec
     (λ c. search needs)
     (λ c. search needs)
-    (λ c. let g = c .before .before .pre .0 in omega (arith, g .lasts .each (c .before .before .args .j) (c .before .before .pre .1), last-low (c .before .before .args .edges .now) (edgeCount (c .before .before .args .edges .now)) (c .before .before .args .j), g .within .few))
-    (λ c. record { answers = sym (rw (no-last _ _ _ (c .before .before .before .pre .0 .lasts .each _ (c .before .before .before .pre .1)) (c .if1 .taken))); stamped = stamped-more (c .before .before .before .pre .2) })
+    (λ c.
+    let entry = c .before .before in
+    let g = entry .pre .0 in omega (
+      arith,
+      g .lasts .each (entry .args .j) (entry .pre .1),
+      last-low
+          (entry .args .edges .now) (edgeCount (entry .args .edges .now)) (entry .args .j),
+      g .within .few,
+    ))
+    (λ c.
+    let entry = c .before .before .before in
+    record {
+      answers = sym (rw (no-last _ _ _ (entry .pre .0 .lasts .each _ (entry .pre .1)) (c .if1 .taken)));
+      stamped = stamped-more (entry .pre .2);
+    })
     (λ c. search needs)
     (λ c. search needs)
-    (λ c. let z = low (c .before .before .before .before .pre .0) (c .before .before .before .before .pre .1) (c .before .if1 .left) in omega arith)
+    (λ c.
+    let entry = c .before .before .before .before in
+    let z = low (entry .pre .0) (entry .pre .1) (c .before .if1 .left) in omega arith)
     (λ c. search needs)
     (λ c. search needs)
-    (λ c. let z = low (c .before .before .before .before .before .pre .0) (c .before .before .before .before .before .pre .1) (c .before .before .if1 .left) in omega arith)
-    (λ c. let z = low (c .before .before .before .before .before .pre .0) (c .before .before .before .before .before .pre .1) (c .before .before .if1 .left) in omega arith)
-    (λ c κs. let g = c .before .before .before .before .before .before .before .pre .0 in record { within = g .within; owners = g .owners; links = g .links; low = c .before .before .before .before .before .before .before .pre .1; starts = g .lasts .each _ (c .before .before .before .before .before .before .before .pre .1); its-id = g .ids .each _ (c .before .before .before .before .before .before .before .pre .1); its-size = g .sizes .each _ (low (c .before .before .before .before .before .before .before .pre .0) (c .before .before .before .before .before .before .before .pre .1) (c .before .before .before .before .if1 .left)); old = c .before .before .before .before .before .before .before .pre .2 })
-    (λ c. record { answers = rw (c .covers-class .ensures .answers, has-last _ _ _ (c .before .before .before .before .before .before .before .before .pre .0 .lasts .each _ (c .before .before .before .before .before .before .before .before .pre .1)) (c .before .before .before .before .before .if1 .left)); stamped = c .covers-class .ensures .stamped }))
+    (λ c.
+    let entry = c .before .before .before .before .before in
+    let if1 = c .before .before .if1 in
+    let z = low (entry .pre .0) (entry .pre .1) (if1 .left) in omega arith)
+    (λ c.
+    let entry = c .before .before .before .before .before in
+    let if1 = c .before .before .if1 in
+    let z = low (entry .pre .0) (entry .pre .1) (if1 .left) in omega arith)
+    (λ c κs.
+    let entry = c .before .before .before .before .before .before .before in
+    let if1 = c .before .before .before .before .if1 in
+    let g = entry .pre .0 in record {
+      within = g .within;
+      owners = g .owners;
+      links = g .links;
+      low = entry .pre .1;
+      starts = g .lasts .each _ (entry .pre .1);
+      its-id = g .ids .each _ (entry .pre .1);
+      its-size = g .sizes .each _
+          (low (entry .pre .0) (entry .pre .1) (if1 .left));
+      old = entry .pre .2;
+    })
+    (λ c.
+    let entry = c .before .before .before .before .before .before .before .before in
+    let if1 = c .before .before .before .before .before .if1 in
+    record {
+      answers = rw (
+        c .covers-class .ensures .answers,
+        has-last _ _ _ (entry .pre .0 .lasts .each _
+            (entry .pre .1)) (if1 .left),
+      );
+      stamped = c .covers-class .ensures .stamped;
+    }))

@@ -34,5 +34,20 @@ link-spec =
     (λ c. search needs)
     (λ c. search needs)
     (λ c. search needs)
-    (λ c. (search needs, last-step _ _ _ _ _ _ (c .before .before .before .before .before .pre .0 .small) (c .before .before .before .loop .inv .1) (c .before .jump-of .ensures .is) (c .before .jump-of .ensures .below) refl, link-step _ _ _ _ _ _ (c .before .before .before .loop .inv .2) (c .before .before .before .loop .inv .1) (c .before .jump-of .ensures .is) (c .before .jump-of .ensures .below) (let z = c .before .before .before .before .before .pre .0 .few in omega arith)))
-    (λ c. record { lasts = table-upto (lastIn (c .before .before .before .args .edges .now)) _ _ (omega arith) (c .before .loop .inv .1); links = table-full _ _ (omega arith) (c .before .loop .inv .2) }))
+    (λ c.
+    let entry = c .before .before .before .before .before in
+    let loop = c .before .before .before .loop in
+    let jump-of = c .before .jump-of in (
+      search needs,
+      last-step _ _ _ _ _ _ (entry .pre .0 .small) (loop .inv .1) (jump-of .ensures .is)
+          (jump-of .ensures .below) refl,
+      link-step _ _ _ _ _ _ (loop .inv .2) (loop .inv .1) (jump-of .ensures .is)
+          (jump-of .ensures .below) (let z = entry .pre .0 .few in omega arith),
+    ))
+    (λ c.
+    let entry = c .before .before .before in
+    let loop = c .before .loop in
+    record {
+      lasts = table-upto (lastIn (entry .args .edges .now)) _ _ (omega arith) (loop .inv .1);
+      links = table-full _ _ (omega arith) (loop .inv .2);
+    }))

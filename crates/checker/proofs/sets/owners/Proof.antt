@@ -34,5 +34,16 @@ owners-spec =
     (λ c. search needs)
     (λ c. search needs)
     (λ c. search needs)
-    (λ c. (search needs, owner-step _ _ _ _ _ _ (c .before .before .before .before .before .before .before .before .pre .0 .small) (c .before .before .before .before .loop .inv .1) (c .before .target-of .ensures .is) (c .before .target-of .ensures .below) (c .before .before .before .before .before .before .before .before .pre .1 .each _ (c .before .before .jump-of .ensures .below) ∙ ap (idOf (c .before .before .before .before .before .before .before .before .args .edges .now) (c .before .before .before .before .before .before .before .before .args .n)) (c .before .before .jump-of .ensures .is))))
-    (λ c. table-upto (ownerIn (c .before .before .before .before .before .args .edges .now) (c .before .before .before .before .before .args .n)) _ _ (omega arith) (c .before .loop .inv .1)))
+    (λ c.
+    let entry = c .before .before .before .before .before .before .before .before in
+    let loop = c .before .before .before .before .loop in
+    let jump-of = c .before .before .jump-of in
+    let target-of = c .before .target-of in (
+      search needs,
+      owner-step _ _ _ _ _ _ (entry .pre .0 .small) (loop .inv .1) (target-of .ensures .is)
+          (target-of .ensures .below) (entry .pre .1 .each _ (jump-of .ensures .below) ∙ ap (idOf
+          (entry .args .edges .now) (entry .args .n)) (jump-of .ensures .is)),
+    ))
+    (λ c.
+    let entry = c .before .before .before .before .before in
+    table-upto (ownerIn (entry .args .edges .now) (entry .args .n)) _ _ (omega arith) (c .before .loop .inv .1)))

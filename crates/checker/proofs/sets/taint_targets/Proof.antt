@@ -34,5 +34,16 @@ taint-targets-spec =
     (λ c. search needs)
     (λ c. search needs)
     (λ c. search needs)
-    (λ c. (search needs, taint-step _ _ _ _ _ _ _ (c .before .before .before .before .before .before .before .before .pre .0 .small) (c .before .before .before .before .before .before .loop .inv .1) (c .before .before .before .target-of .ensures .is) (c .before .before .before .target-of .ensures .below) (c .before .before .before .before .before .before .before .before .pre .1 .each _ (c .before .before .before .before .jump-of .ensures .below) ∙ ap (λ (j : ℕ). bit (uneven (c .before .before .before .before .before .before .before .before .args .edges .now) (c .before .before .before .before .before .before .before .before .args .n) j)) (c .before .before .before .before .jump-of .ensures .is)) (c .raised .ensures)))
-    (λ c. table-upto (taint (c .before .before .before .args .edges .now) (c .before .before .before .args .n)) _ _ (omega arith) (c .before .loop .inv .1)))
+    (λ c.
+    let entry = c .before .before .before .before .before .before .before .before in
+    let loop = c .before .before .before .before .before .before .loop in
+    let jump-of = c .before .before .before .before .jump-of in
+    let target-of = c .before .before .before .target-of in (
+      search needs,
+      taint-step _ _ _ _ _ _ _ (entry .pre .0 .small) (loop .inv .1) (target-of .ensures .is)
+          (target-of .ensures .below) (entry .pre .1 .each _ (jump-of .ensures .below) ∙ ap (λ (j : ℕ). bit (uneven
+          (entry .args .edges .now) (entry .args .n) j)) (jump-of .ensures .is)) (c .raised .ensures),
+    ))
+    (λ c.
+    let entry = c .before .before .before in
+    table-upto (taint (entry .args .edges .now) (entry .args .n)) _ _ (omega arith) (c .before .loop .inv .1)))

@@ -29,8 +29,26 @@ first-bare-jump-spec =
     (λ c. search needs)
     (λ c. search needs)
     (λ c κs. search needs)
-    (λ c. lowest-at _ _ _ (c .before .before .before .before .loop-test .taken) (c .before .before .before .before .before .loop .inv .1) (ap (λ (x : ℕ). isJump (instrAt (c .before .before .before .before .before .before .before .before .before .args .memory .now) (c .before .before .before .before .before .loop .a)) && not (endsAt (c .before .before .before .before .before .before .before .before .before .args .memory .now) (jumpGuard (c .before .before .before .before .before .before .before .before .before .args .technique) (c .before .before .before .before .before .before .before .before .before .args .n) x) (c .before .before .before .before .before .loop .a))) (sym (c .before .before .before .before .before .before .before .before .before .pre .1 .each (c .before .before .before .before .before .loop .a) (c .before .before .before .before .loop-test .taken))) ∙ sym (c .before .is-bare-jump .ensures .answers) ∙ c .if1 .taken))
+    (λ c.
+    let entry = c .before .before .before .before .before .before .before .before .before in
+    let loop = c .before .before .before .before .before .loop in
+    let test = c .before .before .before .before .loop-test in
+    lowest-at _ _ _ (test .taken) (loop .inv .1) (ap (λ (x : ℕ). isJump (instrAt (entry .args .memory .now)
+    (loop .a)) && not (endsAt (entry .args .memory .now) (jumpGuard (entry .args .technique) (entry .args .n) x)
+    (loop .a))) (sym (entry .pre .1 .each (loop .a) (test .taken))) ∙ sym
+    (c .before .is-bare-jump .ensures .answers) ∙ c .if1 .taken))
     (λ c. search needs)
     (λ c. search needs)
-    (λ c. (search needs, clean-more _ _ (c .before .before .before .before .before .loop .inv .1) (ap (λ (x : ℕ). isJump (instrAt (c .before .before .before .before .before .before .before .before .before .args .memory .now) (c .before .before .before .before .before .loop .a)) && not (endsAt (c .before .before .before .before .before .before .before .before .before .args .memory .now) (jumpGuard (c .before .before .before .before .before .before .before .before .before .args .technique) (c .before .before .before .before .before .before .before .before .before .args .n) x) (c .before .before .before .before .before .loop .a))) (sym (c .before .before .before .before .before .before .before .before .before .pre .1 .each (c .before .before .before .before .before .loop .a) (c .before .before .before .before .loop-test .taken))) ∙ sym (c .before .is-bare-jump .ensures .answers) ∙ c .if1 .left), c .before .is-bare-jump .ensures .left))
+    (λ c.
+    let entry = c .before .before .before .before .before .before .before .before .before in
+    let loop = c .before .before .before .before .before .loop in
+    let test = c .before .before .before .before .loop-test in
+    let is-bare-jump = c .before .is-bare-jump in (
+      search needs,
+      clean-more _ _ (loop .inv .1) (ap (λ (x : ℕ). isJump (instrAt (entry .args .memory .now)
+          (loop .a)) && not (endsAt (entry .args .memory .now) (jumpGuard (entry .args .technique) (entry .args .n) x)
+          (loop .a))) (sym (entry .pre .1 .each (loop .a) (test .taken))) ∙ sym (is-bare-jump .ensures .answers)
+          ∙ c .if1 .left),
+      is-bare-jump .ensures .left,
+    ))
     (λ c. lowest-none _ _ _ (omega arith) (c .before .loop .inv .1)))

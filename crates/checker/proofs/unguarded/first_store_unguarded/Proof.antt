@@ -23,9 +23,17 @@ first-store-unguarded-spec =
     μ-loop
     (λ c κs. search needs)
     (λ c. (search needs, clean-none _))
-    (λ c κs. (c .before .before .before .before .before .pre, c .before .loop-test .taken, c .before .before .before .store-words .ensures))
-    (λ c. lowest-at _ _ _ (c .before .before .before .loop-test .taken) (c .before .before .before .before .loop .inv .1) (sym (c .before .is-bare-store .ensures) ∙ c .if1 .taken))
+    (λ c κs.
+    let entry = c .before .before .before .before .before in
+    let store-words = c .before .before .before .store-words in
+    (entry .pre, c .before .loop-test .taken, store-words .ensures))
+    (λ c.
+    let loop = c .before .before .before .before .loop in
+    let test = c .before .before .before .loop-test in
+    lowest-at _ _ _ (test .taken) (loop .inv .1) (sym (c .before .is-bare-store .ensures) ∙ c .if1 .taken))
     (λ c. search needs)
     (λ c. search needs)
-    (λ c. (search needs, clean-more _ _ (c .before .before .before .before .loop .inv .1) (sym (c .before .is-bare-store .ensures) ∙ c .if1 .left)))
+    (λ c.
+    let loop = c .before .before .before .before .loop in
+    (search needs, clean-more _ _ (loop .inv .1) (sym (c .before .is-bare-store .ensures) ∙ c .if1 .left)))
     (λ c. lowest-none _ _ _ (omega arith) (c .before .loop .inv .1)))

@@ -11,9 +11,40 @@ is-bare-jump-spec =
     tie.close
     (tie.spec
     (λ c κs. search needs)
-    (λ c. record { answers = rw (← c .before .jump-at .ensures, not-true (c .before .jump-at .result) (c .if1 .taken)); left = c .before .before .before .pre .2 })
+    (λ c.
+    let entry = c .before .before .before in
+    let jump-at = c .before .jump-at in
+    record { answers = rw (← jump-at .ensures, not-true (jump-at .result) (c .if1 .taken)); left = entry .pre .2 })
     (λ c κs. search needs)
     (λ c κs. search needs)
     (λ c κs. search needs)
-    (λ c κs. (omega arith, omega arith, (let z = c .jump-length .ensures in let y = jump-length-low (c .before .before .before .before .before .before .before .before .before .args .technique) in omega arith), jump-kept (c .before .before .before .before .before .before .before .before .before .args .technique) (c .before .before .before .before .before .before .before .before .before .args .n) (c .before .before .before .before .before .before .before .before .before .args .id) _ _ _ (c .before .before .before .before .before .before .before .before .before .pre .0 .code-limit) (omega arith) (c .before .before .before .before .put-id .ensures) (c .before .before .before .jump-frees .ensures) (c .jump-length .ensures) .formed))
-    (λ c. record { answers = rw (← c .before .before .before .before .before .before .before .before .jump-at .ensures, not-false (c .before .before .before .before .before .before .before .before .jump-at .result) (c .before .before .before .before .before .before .before .if1 .left), ← jump-kept (c .before .before .before .before .before .before .before .before .before .before .args .technique) (c .before .before .before .before .before .before .before .before .before .before .args .n) (c .before .before .before .before .before .before .before .before .before .before .args .id) _ _ _ (c .before .before .before .before .before .before .before .before .before .before .pre .0 .code-limit) (omega arith) (c .before .before .before .before .before .put-id .ensures) (c .before .before .before .before .jump-frees .ensures) (c .before .jump-length .ensures) .same, c .ends-at .ensures); left = record { id = c .before .before .before .before .before .before .before .before .before .before .args .id; are = c .before .before .before .before .before .put-id .ensures } }))
+    (λ c κs.
+    let entry = c .before .before .before .before .before .before .before .before .before in
+    let put-id = c .before .before .before .before .put-id in
+    let jump-frees = c .before .before .before .jump-frees in (
+      omega arith,
+      omega arith,
+      (let z = c .jump-length .ensures in let y = jump-length-low
+          (entry .args .technique) in omega arith),
+      jump-kept (entry .args .technique) (entry .args .n)
+          (entry .args .id) _ _ _ (entry .pre .0 .code-limit) (omega arith) (put-id .ensures) (jump-frees .ensures)
+          (c .jump-length .ensures) .formed,
+    ))
+    (λ c.
+    let entry = c .before .before .before .before .before .before .before .before .before .before in
+    let jump-at = c .before .before .before .before .before .before .before .before .jump-at in
+    let if1 = c .before .before .before .before .before .before .before .if1 in
+    let put-id = c .before .before .before .before .before .put-id in
+    let jump-frees = c .before .before .before .before .jump-frees in
+    record {
+      answers = rw (
+        ← jump-at .ensures,
+        not-false (jump-at .result) (if1 .left),
+        ← jump-kept
+            (entry .args .technique) (entry .args .n) (entry .args .id) _ _ _ (entry .pre .0 .code-limit) (omega arith)
+            (put-id .ensures) (jump-frees .ensures) (c .before .jump-length .ensures) .same,
+        c .ends-at .ensures,
+      );
+      left =
+          record { id = entry .args .id; are = put-id .ensures };
+    }))

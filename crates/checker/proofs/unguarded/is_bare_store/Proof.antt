@@ -13,7 +13,38 @@ is-bare-store-spec =
     (tie.spec
     (λ c κs. search needs)
     (λ c. rw (← c .before .store-at .ensures, not-true (c .before .store-at .result) (c .if1 .taken)))
-    (λ c. let z = c .if2 .taken in rw (← c .before .before .store-at .ensures, not-false (c .before .before .store-at .result) (c .before .if1 .left), le-ltb (c .before .before .before .before .args .n) (length (c .before .before .before .before .args .memory .now)) (omega arith)))
+    (λ c.
+    let entry = c .before .before .before .before in
+    let store-at = c .before .before .store-at in
+    let z = c .if2 .taken in rw (
+      ← store-at .ensures,
+      not-false (store-at .result) (c .before .if1 .left),
+      le-ltb
+          (entry .args .n) (length (entry .args .memory .now)) (omega arith),
+    ))
     (λ c κs. search needs)
-    (λ c κs. (omega arith, omega arith, omega arith, store-kept (c .before .before .before .before .before .before .args .n) (length (c .before .before .before .before .before .before .args .memory .now)) _ _ (c .before .before .before .before .before .before .pre .0 .code-limit) (c .before .before .before .before .before .before .pre .0 .whole-limit) (c .before .before .before .before .before .before .pre .2) (c .before .store-frees .ensures) .formed))
-    (λ c. let z = c .before .before .before .if2 .left in rw (← c .before .before .before .before .before .store-at .ensures, not-false (c .before .before .before .before .before .store-at .result) (c .before .before .before .before .if1 .left), lt-ltb (c .before .before .before .before .before .before .before .args .n) (length (c .before .before .before .before .before .before .before .args .memory .now)) (omega arith), ← store-kept (c .before .before .before .before .before .before .before .args .n) (length (c .before .before .before .before .before .before .before .args .memory .now)) _ _ (c .before .before .before .before .before .before .before .pre .0 .code-limit) (c .before .before .before .before .before .before .before .pre .0 .whole-limit) (c .before .before .before .before .before .before .before .pre .2) (c .before .before .store-frees .ensures) .same, c .ends-at .ensures)))
+    (λ c κs.
+    let entry = c .before .before .before .before .before .before in (
+      omega arith,
+      omega arith,
+      omega arith,
+      store-kept (entry .args .n) (length (entry .args .memory .now)) _ _
+          (entry .pre .0 .code-limit) (entry .pre .0 .whole-limit) (entry .pre .2)
+          (c .before .store-frees .ensures) .formed,
+    ))
+    (λ c.
+    let entry = c .before .before .before .before .before .before .before in
+    let store-at = c .before .before .before .before .before .store-at in
+    let if1 = c .before .before .before .before .if1 in
+    let if2 = c .before .before .before .if2 in
+    let store-frees = c .before .before .store-frees in
+    let z = if2 .left in rw (
+      ← store-at .ensures,
+      not-false (store-at .result) (if1 .left),
+      lt-ltb (entry .args .n)
+          (length (entry .args .memory .now)) (omega arith),
+      ← store-kept (entry .args .n) (length
+          (entry .args .memory .now)) _ _ (entry .pre .0 .code-limit) (entry .pre .0 .whole-limit) (entry .pre .2)
+          (store-frees .ensures) .same,
+      c .ends-at .ensures,
+    )))
