@@ -1,0 +1,19 @@
+-- `crosscheck::build::shuffle` is safe and ends. The measure is `count - k`, and nothing has to hold from turn to turn. Assumes nothing.
+use Prim.Native.Nat.{_-_}
+use native.Mathlib.Omega.{arith}
+use Rattle.crosscheck.proofs.build.shuffle.Statement.{statement}
+use Rattle.crosscheck.proofs.build.shuffle.Tie as tie
+
+pub shuffle-spec : {M : Type 1} → statement M
+shuffle-spec =
+    tie.close
+    (tie.spec
+    (λ _ _ _ _ _ _ _. Unit {0})
+    (λ _ _ count _ _ _ k. count - k)
+    (λ c. tt)
+    (λ c κs. tt)
+    (λ c κs. tt)
+    (λ c. omega arith)
+    (λ c. omega arith)
+    (λ c. tt)
+    (λ c. tt))

@@ -1,0 +1,21 @@
+-- `crosscheck::second::within` is safe and ends. The measure is `count - k`, and nothing has to hold from turn to turn. Assumes nothing.
+use Prim.Native.Nat.{_-_}
+use native.Mathlib.Omega.{arith}
+use Rattle.crosscheck.proofs.second.within.Statement.{statement}
+use Rattle.crosscheck.proofs.second.within.Tie as tie
+
+pub within-spec : {M : Type 1} → statement M
+within-spec =
+    tie.close
+    (tie.spec
+    (λ _ _ _ _ _ _. Unit {0})
+    (λ _ _ _ count _ k. count - k)
+    (λ c. tt)
+    (λ c κs. tt)
+    (λ c κs. tt)
+    (λ c κs. tt)
+    (λ c. tt)
+    (λ c. omega arith)
+    (λ c. omega arith)
+    (λ c. tt)
+    (λ c. tt))
