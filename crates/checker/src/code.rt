@@ -4,7 +4,6 @@ ghost use Prim.Native.Nat.{_<_};
 ghost use lib.ListN.{length};
 ghost use Rattle.isa.specs.Instructions.{instrAt, isJump, isStore, isIllegal};
 use isa::Kind;
-use isa::decode;
 use isa::is_a;
 use isa::is_illegal;
 
@@ -26,5 +25,5 @@ pub(crate) fn illegal_at(memory: &[u64], a: usize) -> bool
     requires { ⌜ a < length (now memory) ⌝ }
     ensures { λ r. ⌜ r ≡ isIllegal (instrAt (now (memory .entry)) a) ⌝ }
 {
-    is_illegal(decode(memory[a]))
+    is_illegal(memory[a])
 }

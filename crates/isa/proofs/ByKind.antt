@@ -1,7 +1,7 @@
 -- A word is an instruction of a kind exactly where its opcode is the kind's and its fields are the kind's exact form.
 use Prim.Native.Nat.{ℕ, _/_, _%_, _^_, _<_}
 use mathlib.Core.Path.{_≡_, refl, sym, ap, _∙_}
-use mathlib.Core.Bool.{Bool, true, false, cond, _&&_, _||_, and-false}
+use mathlib.Core.Bool.{Bool, true, false, not, cond, _&&_, _||_, and-false}
 use mathlib.Core.Option.{none, some}
 use native.Mathlib.Omega.{arith}
 use borrow.Author.Tests.{eq-eqb, eqb-true}
@@ -10,8 +10,8 @@ use Rattle.lists.proofs.Bools.{clash, and-left, and-right, both-true, same-bool
 use Rattle.isa.specs.declared.Kind.{Kind}
 use Rattle.isa.specs.declared.Instr.{Instr}
 use Rattle.isa.specs.declared.Fields.{Fields}
-use Rattle.isa.specs.Words.{kindOf, opcodeOf, known, fieldsFit, exact, split, instrOf, fieldsOf, decodeOf}
-use Rattle.isa.specs.Instructions.{isKind, isJump, isStore, labelNumber, branchTarget}
+use Rattle.isa.specs.Words.{kindOf, opcodeOf, known, fieldsFit, exact, fields, split, instrOf, fieldsOf, decodeOf}
+use Rattle.isa.specs.Instructions.{isIllegal, isKind, isJump, isStore, labelNumber, branchTarget}
 use Rattle.isa.proofs.Words.{fieldsAs, kind-opcode, opcode-kind, exact-back, decode-exact, fit}
 
 pub known-opcode : (k : Kind) → known k ≡ true → opcodeOf k < 9
@@ -32,6 +32,27 @@ same-kind k l hk hl e = sym (kind-opcode k hk) ∙ ap kindOf e ∙ kind-opcode l
 -- the fields of what a legal word decodes to are its own
 pub legal-fields : (x : ℕ) → exact (split x) ≡ true → fieldsOf (decodeOf x) ≡ split x
 legal-fields x e = ap fieldsOf (decode-exact x (split x) refl e) ∙ exact-back (split x) e
+
+-- a word is illegal precisely where it is no exact form
+legal-kind : (k : Kind) (a b c w : ℕ) → known k ≡ true → isIllegal (instrOf (fields k a b c w)) ≡ false
+legal-kind Kind.Label a b c w h = refl
+legal-kind Kind.Add a b c w h = refl
+legal-kind Kind.Addi a b c w h = refl
+legal-kind Kind.Movi a b c w h = refl
+legal-kind Kind.Bgt a b c w h = refl
+legal-kind Kind.Jd a b c w h = refl
+legal-kind Kind.Jmp a b c w h = refl
+legal-kind Kind.Ld a b c w h = refl
+legal-kind Kind.St a b c w h = refl
+legal-kind Kind.Unknown a b c w h = clash (cc)
+
+pub illegal-exact : (x : ℕ) → not (exact (split x)) ≡ isIllegal (decodeOf x)
+unfolding decodeOf
+illegal-exact x = go (exact (split x)) refl
+  where
+    go : (b : Bool) → exact (split x) ≡ b → not b ≡ isIllegal (cond b (instrOf (split x)) Instr.Illegal)
+    go false e = refl
+    go true e = sym (legal-kind (split x .kind) _ _ _ _ (fit (split x) e .is-known))
 
 module _ (k : Kind) (hk : known k ≡ true) (x : ℕ) where
   -- a word of the kind's opcode in the kind's exact form decodes to it

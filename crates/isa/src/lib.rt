@@ -65,22 +65,16 @@ pub fn encode(i: Instr) -> u64
     }
 }
 
-// No instruction.
-pub fn is_illegal(i: Instr) -> bool
-    ensures { λ r. ⌜ r ≡ isIllegal i ⌝ }
+// Whether a word is no exact form, without decoding the rest of it.
+pub fn is_illegal(word: u64) -> bool
+    ensures { λ r. ⌜ r ≡ isIllegal (decodeOf word) ⌝ }
 {
-    match i {
-        Instr::Label(_) => false,
-        Instr::Add(_, _, _) => false,
-        Instr::Addi(_, _, _) => false,
-        Instr::Movi(_, _) => false,
-        Instr::Bgt(_, _, _) => false,
-        Instr::Jd(_) => false,
-        Instr::Jmp(_) => false,
-        Instr::Ld(_, _, _) => false,
-        Instr::St(_, _, _) => false,
-        Instr::Illegal => true,
-    }
+    let opcode = (word / 0x100_0000_0000_0000) as u8;
+    let a = (word / 0x1_0000_0000_0000 % 256) as u8;
+    let b = (word / 0x100_0000_0000 % 256) as u8;
+    let c = (word / 0x1_0000_0000 % 256) as u8;
+    let w = (word % 0x1_0000_0000) as u32;
+    !is_exact(kind_at(opcode), a, b, c, w)
 }
 
 // Whether a word is an instruction of this kind, without decoding the rest of it.

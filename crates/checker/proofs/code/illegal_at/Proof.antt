@@ -1,4 +1,4 @@
--- `code::illegal_at` meets its contract: by what the decoder and the test ensure.
+-- `code::illegal_at` meets its contract: by what the test ensures.
 use borrow.Author.Needs.{needs}
 use Rattle.checker.proofs.code.illegal_at.Statement.{statement}
 use Rattle.checker.proofs.code.illegal_at.Tie as tie
@@ -10,5 +10,4 @@ illegal-at-spec =
     (λ c. search needs)
     (λ c. search needs)
     (λ c κs. search needs)
-    (λ c κs. search needs)
-    (λ c. rw (c .is-illegal .ensures, c .before .decode .ensures)))
+    (λ c. c .is-illegal .ensures))

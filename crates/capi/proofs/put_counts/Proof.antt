@@ -1,0 +1,19 @@
+-- `capi::put_counts` meets its contract: three stores are a run of stores from the front on.
+use mathlib.Core.List.{[], _∷_}
+use native.Mathlib.Omega.{arith}
+use denote.Ref.{now}
+use lib.ListN.{length-set}
+use Rattle.parcel.proofs.Runs.{over-front}
+use borrow.Author.Needs.{needs}
+use Rattle.capi.proofs.put_counts.Statement.{statement}
+use Rattle.capi.proofs.put_counts.Tie as tie
+
+pub put-counts-spec : {M : Type 1} → statement M
+put-counts-spec =
+    tie.close
+    (tie.spec
+    (λ c. search needs)
+    (λ c. simp length-set (omega arith))
+    (λ c. search needs)
+    (λ c. search needs)
+    (λ c. over-front (c .args .code ∷ c .args .edges ∷ c .args .words ∷ []) (now (c .args .counts)) (c .pre)))

@@ -1,0 +1,35 @@
+-- The call on a program: the verdict as a number, with its place as two numbers (document 01, "Numbers given, in checking order").
+use Prim.Native.Nat.{ℕ}
+use mathlib.Core.Path.{_≡_}
+use mathlib.Core.Bool.{cond}
+use mathlib.Core.List.{List, [], _∷_}
+use Rattle.answers.specs.declared.Place.{Place}
+use Rattle.answers.specs.declared.Verdict.{Verdict}
+use Rattle.answers.specs.Numbers.{refusalNumber}
+use Rattle.parcel.specs.Bytes.{putOver}
+use Rattle.checker.specs.Verdicts.{verdictOf}
+use Rattle.capi.specs.Words.{tooShort, shorter}
+use Rattle.capi.specs.States.{techniqueOf}
+
+-- 0 where the program is accepted
+abbrev pub verdictNumber : Verdict → ℕ
+verdictNumber Verdict.Accepted = 0
+verdictNumber (Verdict.Refused refusal place) = refusalNumber refusal
+
+-- which kind of place it is, 0 for none, 1 for an edge, 2 for an address; and the place
+abbrev pub placeNumbers : Place → List ℕ
+placeNumbers (Place.Edge k) = 1 ∷ k ∷ []
+placeNumbers (Place.Address a) = 2 ∷ a ∷ []
+placeNumbers Place.Nowhere = 0 ∷ 0 ∷ []
+
+abbrev pub verdictPlace : Verdict → Place
+verdictPlace Verdict.Accepted = Place.Nowhere
+verdictPlace (Verdict.Refused refusal place) = place
+
+-- the contract of `pg_check`: its answer r, and the place that it leaves
+pub record CheckCall (technique : ℕ) (memory : List ℕ) (n : ℕ) (edges place : List ℕ) (r : ℕ) (place′ : List ℕ) : Type 0 where
+  pub answer : r ≡ cond (shorter place 2) tooShort (verdictNumber (verdictOf (techniqueOf technique) memory n edges))
+  pub place-after :
+      place′
+      ≡ cond (shorter place 2) place
+      (putOver (placeNumbers (verdictPlace (verdictOf (techniqueOf technique) memory n edges))) place)

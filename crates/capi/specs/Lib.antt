@@ -1,0 +1,5 @@
+pub mod Words
+pub mod States
+pub mod Checks
+pub mod Parcels
+pub mod Theorems

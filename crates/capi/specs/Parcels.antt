@@ -1,0 +1,70 @@
+-- The calls on parcels (document 01, "Parcel").
+use Prim.Native.Nat.{ℕ}
+use mathlib.Core.Path.{_≡_}
+use mathlib.Core.Bool.{Bool, cond, _&&_}
+use mathlib.Core.List.{List, [], _∷_}
+use lib.ListN.{length, take, drop}
+use Rattle.answers.specs.declared.Refusal.{Refusal}
+use Rattle.answers.specs.declared.Place.{Place}
+use Rattle.answers.specs.Numbers.{refusalNumber}
+use Rattle.answers.specs.Shape.{memoryShaped, edgesShaped}
+use Rattle.parcel.specs.declared.Read.{Read}
+use Rattle.parcel.specs.declared.Written.{Written}
+use Rattle.parcel.specs.Bytes.{putOver}
+use Rattle.parcel.specs.Parcel.{readOf, countsOf, roomFor, memoryIn, edgesIn, afterRead, parcelOf, writtenOf, afterWrite}
+use Rattle.capi.specs.Words.{shorter}
+
+-- 0 where the parcel is read
+abbrev pub readNumber : Read → ℕ
+readNumber (Read.Counts code edges words) = 0
+readNumber (Read.Refused why place) = refusalNumber why
+
+-- 1 to 4, and then 5
+abbrev pub noPlace : Read → Read
+noPlace (Read.Counts code edges words) = Read.Refused Refusal.PlaceTooShort Place.Nowhere
+noPlace (Read.Refused why place) = Read.Refused why place
+
+-- the reading, where the place for the three counts is a lent place like the others
+abbrev pub readCall : List ℕ → List ℕ → List ℕ → List ℕ → Read
+readCall parcel memory edges counts =
+    cond (shorter counts 3) (noPlace (countsOf (readOf 2 parcel))) (roomFor (length memory) (length edges) (readOf 2 parcel))
+
+-- code words, edges, data words
+abbrev pub countsAfter : Read → List ℕ → List ℕ
+countsAfter (Read.Counts code edges words) counts = putOver (code ∷ edges ∷ words ∷ []) counts
+countsAfter (Read.Refused why place) counts = counts
+
+-- the contract of `pg_read_parcel`: its answer r, and the three places that it leaves
+pub record ReadCall (parcel memory edges counts : List ℕ) (r : ℕ) (memory′ edges′ counts′ : List ℕ) : Type 0 where
+  pub answer : r ≡ readNumber (readCall parcel memory edges counts)
+  pub memory-after : memory′ ≡ afterRead (readCall parcel memory edges counts) (memoryIn (readOf 2 parcel)) memory
+  pub edges-after : edges′ ≡ afterRead (readCall parcel memory edges counts) (edgesIn (readOf 2 parcel)) edges
+  pub counts-after : counts′ ≡ countsAfter (readCall parcel memory edges counts) counts
+
+-- 0 where the parcel is written
+abbrev pub writtenNumber : Written → ℕ
+writtenNumber (Written.Bytes size) = 0
+writtenNumber (Written.Refused why place) = refusalNumber why
+
+abbrev pub shaped : List ℕ → ℕ → List ℕ → Bool
+shaped memory n edges = memoryShaped (length memory) n && edgesShaped (length edges)
+
+abbrev pub bytesIn : List ℕ → ℕ → List ℕ → List ℕ
+bytesIn memory n edges = parcelOf 2 (take n memory) edges (drop n memory)
+
+-- the writing, where the place for the count is a lent place as the parcel's is: 6, and then 5
+abbrev pub writeCall : List ℕ → ℕ → List ℕ → List ℕ → List ℕ → Written
+writeCall memory n edges parcel count =
+    cond (shorter count 1)
+    (Written.Refused (cond (shaped memory n edges) Refusal.PlaceTooShort Refusal.Shape) Place.Nowhere)
+    (writtenOf (shaped memory n edges) (length parcel) (bytesIn memory n edges))
+
+abbrev pub countAfter : Written → List ℕ → List ℕ
+countAfter (Written.Bytes size) count = putOver (size ∷ []) count
+countAfter (Written.Refused why place) count = count
+
+-- the contract of `pg_write_parcel`: its answer r, and the two places that it leaves
+pub record WriteCall (memory : List ℕ) (n : ℕ) (edges parcel count : List ℕ) (r : ℕ) (parcel′ count′ : List ℕ) : Type 0 where
+  pub answer : r ≡ writtenNumber (writeCall memory n edges parcel count)
+  pub parcel-after : parcel′ ≡ afterWrite (writeCall memory n edges parcel count) (bytesIn memory n edges) parcel
+  pub count-after : count′ ≡ countAfter (writeCall memory n edges parcel count) count

@@ -1,0 +1,343 @@
+// The calls for C and Rust: numbers and slices, a slice as its pointer and its length. `include/post_guard.h` declares them.
+ghost use mathlib.Core.Path.{_≡_};
+ghost use Prim.Native.Nat.{_≤_};
+ghost use lib.ListN.{length};
+ghost use mathlib.Core.List.{[], _∷_};
+ghost use Rattle.isa.specs.Words.{kindOf, instrOf, fields};
+ghost use Rattle.machine.specs.Numbers.{endingNumber, writtenNumber};
+ghost use Rattle.parcel.specs.Bytes.{putOver};
+ghost use Rattle.capi.specs.Words.{DecodeCall, encodeCall};
+ghost use Rattle.capi.specs.States.{techniqueOf, stateIn, wordsOf, StepCall, RunCall, WriteDataCall, WriteRegisterCall};
+ghost use Rattle.capi.specs.Checks.{placeNumbers, CheckCall};
+ghost use Rattle.parcel.specs.Parcel.{readOf, countsOf};
+ghost use Rattle.capi.specs.Parcels.{readNumber, noPlace, shaped, ReadCall, WriteCall};
+use answers::Place;
+use answers::Verdict;
+use isa::Instr;
+use isa::Technique;
+use machine::Ending;
+use machine::State;
+use machine::Written;
+use parcel::Read;
+
+#[no_mangle]
+pub extern "C" fn pg_decode(word: u64, place: &mut [u32]) -> u32
+    ensures { λ r. ⌜ DecodeCall word (now (place .entry)) r (now (place .exit)) ⌝ }
+{
+    if place.len() < 5 {
+        return 5;
+    }
+    if isa::is_illegal(word) {
+        put_fields(place, 255, 0, 0, 0, 0);
+        return 0;
+    }
+    let opcode = (word / 0x100_0000_0000_0000) as u8;
+    let a = (word / 0x1_0000_0000_0000 % 256) as u8;
+    let b = (word / 0x100_0000_0000 % 256) as u8;
+    let c = (word / 0x1_0000_0000 % 256) as u8;
+    let w = (word % 0x1_0000_0000) as u32;
+    put_fields(place, opcode, a, b, c, w);
+    0
+}
+
+#[no_mangle]
+pub extern "C" fn pg_encode(opcode: u8, a: u8, b: u8, c: u8, w: u32) -> u64
+    ensures { λ r. ⌜ r ≡ encodeCall opcode a b c w ⌝ }
+{
+    isa::encode(instr_of(opcode, a, b, c, w))
+}
+
+// A step is a run with limit 1: the loop of `run` is then the one place where the compiler puts the whole of a step.
+#[no_mangle]
+pub extern "C" fn pg_step(technique: u8, state: &mut [u64], memory: &mut [u64], n: usize) -> u32
+    ensures { λ r. ⌜ StepCall technique n (now (state .entry)) (now (memory .entry)) r (now (state .exit)) (now (memory .exit)) ⌝ }
+{
+    if state.len() < 33 {
+        return 5;
+    }
+    let ran = machine::run(technique_of(technique), state_in(&state[..]), memory, n, 1);
+    let after = ran.state;
+    let ending = ran.ending;
+    put_state(state, after);
+    ending_number(ending)
+}
+
+#[no_mangle]
+pub extern "C" fn pg_run(
+    technique: u8,
+    state: &mut [u64],
+    memory: &mut [u64],
+    n: usize,
+    limit: u16,
+    count: &mut [u64],
+) -> u32
+    ensures { λ r. ⌜ RunCall technique n limit (now (state .entry)) (now (memory .entry)) (now (count .entry)) r (now (state .exit)) (now (memory .exit)) (now (count .exit)) ⌝ }
+{
+    if state.len() < 33 {
+        return 5;
+    }
+    if count.len() < 1 {
+        return 5;
+    }
+    let ran = machine::run(
+        technique_of(technique),
+        state_in(&state[..]),
+        memory,
+        n,
+        limit,
+    );
+    let after = ran.state;
+    let ending = ran.ending;
+    put_state(state, after);
+    count[0] = wide16(ran.count);
+    ending_number(ending)
+}
+
+#[no_mangle]
+pub extern "C" fn pg_write_data(memory: &mut [u64], n: usize, address: u64, word: u64) -> u32
+    ensures { λ r. ⌜ WriteDataCall n (now (memory .entry)) address word r (now (memory .exit)) ⌝ }
+{
+    written_number(machine::write_data(memory, n, address, word))
+}
+
+#[no_mangle]
+pub extern "C" fn pg_write_register(state: &mut [u64], register: u64, word: u64) -> u32
+    ensures { λ r. ⌜ WriteRegisterCall (now (state .entry)) register word r (now (state .exit)) ⌝ }
+{
+    if state.len() < 33 {
+        return 5;
+    }
+    let written = machine::write_register(state_in(&state[..]), register, word);
+    let after = written.state;
+    let answer = written.answer;
+    put_state(state, after);
+    written_number(answer)
+}
+
+#[no_mangle]
+pub extern "C" fn pg_check(
+    technique: u8,
+    memory: &[u64],
+    n: usize,
+    edges: &[u16],
+    place: &mut [u64],
+) -> u32
+    ensures { λ r. ⌜ CheckCall technique (now (memory .entry)) n (now (edges .entry)) (now (place .entry)) r (now (place .exit)) ⌝ }
+{
+    if place.len() < 2 {
+        return 5;
+    }
+    match checker::check(technique_of(technique), memory, n, edges) {
+        Verdict::Accepted => {
+            put_place(place, Place::Nowhere);
+            0
+        }
+        Verdict::Refused(why, at) => {
+            put_place(place, at);
+            wide8(answers::number(why))
+        }
+    }
+}
+
+#[no_mangle]
+pub extern "C" fn pg_read_parcel(
+    parcel: &[u8],
+    memory: &mut [u64],
+    edges: &mut [u16],
+    counts: &mut [u64],
+) -> u32
+    ensures { λ r. ⌜ ReadCall (now (parcel .entry)) (now (memory .entry)) (now (edges .entry)) (now (counts .entry)) r (now (memory .exit)) (now (edges .exit)) (now (counts .exit)) ⌝ }
+{
+    if counts.len() < 3 {
+        return number_without_place(parcel);
+    }
+    match parcel::read_parcel(parcel, memory, edges) {
+        Read::Counts {
+            code,
+            edges: pairs,
+            data,
+        } => {
+            put_counts(counts, code, pairs, data);
+            0
+        }
+        Read::Refused(why, _) => wide8(answers::number(why)),
+    }
+}
+
+#[no_mangle]
+pub extern "C" fn pg_write_parcel(
+    memory: &[u64],
+    n: usize,
+    edges: &[u16],
+    parcel: &mut [u8],
+    count: &mut [u64],
+) -> u32
+    ensures { λ r. ⌜ WriteCall (now (memory .entry)) n (now (edges .entry)) (now (parcel .entry)) (now (count .entry)) r (now (parcel .exit)) (now (count .exit)) ⌝ }
+{
+    if count.len() < 1 {
+        if is_shaped(memory, n, edges) {
+            return 5;
+        }
+        return 6;
+    }
+    match parcel::write_parcel(memory, n, edges, parcel) {
+        parcel::Written::Bytes(size) => {
+            count[0] = size as u64;
+            0
+        }
+        parcel::Written::Refused(why, _) => wide8(answers::number(why)),
+    }
+}
+
+fn technique_of(number: u8) -> Technique
+    ensures { λ r. ⌜ r ≡ techniqueOf number ⌝ }
+{
+    if number == 0 {
+        Technique::Plain
+    } else {
+        Technique::MemoryGuards
+    }
+}
+
+fn instr_of(opcode: u8, a: u8, b: u8, c: u8, w: u32) -> Instr
+    ensures { λ r. ⌜ r ≡ instrOf (fields (kindOf opcode) a b c w) ⌝ }
+{
+    match opcode {
+        0 => Instr::Label(w),
+        1 => Instr::Add(a, b, c),
+        2 => Instr::Addi(a, b, w),
+        3 => Instr::Movi(a, w),
+        4 => Instr::Bgt(a, b, w),
+        5 => Instr::Jd(w),
+        6 => Instr::Jmp(a),
+        7 => Instr::Ld(a, b, w),
+        8 => Instr::St(a, b, w),
+        _ => Instr::Illegal,
+    }
+}
+
+// The five numbers of an instruction, at the front of the place.
+fn put_fields(place: &mut [u32], opcode: u8, a: u8, b: u8, c: u8, w: u32)
+    requires { ⌜ 5 ≤ length (now place) ⌝ }
+    ensures { λ _. ⌜ now (place .exit) ≡ putOver (opcode ∷ a ∷ b ∷ c ∷ w ∷ []) (now (place .entry)) ⌝ }
+{
+    place[0] = wide8(opcode);
+    place[1] = wide8(a);
+    place[2] = wide8(b);
+    place[3] = wide8(c);
+    place[4] = w;
+}
+
+fn state_in(words: &[u64]) -> State
+    requires { ⌜ 33 ≤ length (now words) ⌝ }
+    ensures { λ r. ⌜ r ≡ stateIn (now (words .entry)) ⌝ }
+{
+    let mut regs = [0u64; 32];
+    let mut i = 0;
+    while i < 32 {
+        regs[i] = words[i];
+        i += 1;
+    }
+    State {
+        regs: regs,
+        pc: words[32],
+    }
+}
+
+fn put_state(words: &mut [u64], state: State)
+    requires { ⌜ 33 ≤ length (now words) ⌝ }
+    ensures { λ _. ⌜ now (words .exit) ≡ putOver (wordsOf state) (now (words .entry)) ⌝ }
+{
+    let regs = state.regs;
+    let mut i = 0;
+    while i < 32 {
+        words[i] = regs[i];
+        i += 1;
+    }
+    words[32] = state.pc;
+}
+
+// Which kind of place it is, and the place.
+fn put_place(place: &mut [u64], at: Place)
+    requires { ⌜ 2 ≤ length (now place) ⌝ }
+    ensures { λ _. ⌜ now (place .exit) ≡ putOver (placeNumbers at) (now (place .entry)) ⌝ }
+{
+    match at {
+        Place::Edge(k) => put_pair(place, 1, k as u64),
+        Place::Address(a) => put_pair(place, 2, a as u64),
+        Place::Nowhere => put_pair(place, 0, 0),
+    }
+}
+
+fn put_pair(place: &mut [u64], x: u64, y: u64)
+    requires { ⌜ 2 ≤ length (now place) ⌝ }
+    ensures { λ _. ⌜ now (place .exit) ≡ putOver (x ∷ y ∷ []) (now (place .entry)) ⌝ }
+{
+    place[0] = x;
+    place[1] = y;
+}
+
+// What a parcel gives where a place is too short: 1 to 4 come before 5.
+fn number_without_place(parcel: &[u8]) -> u32
+    ensures { λ r. ⌜ r ≡ readNumber (noPlace (countsOf (readOf 2 (now (parcel .entry))))) ⌝ }
+{
+    let mut memory = [0u64; 1];
+    let mut edges = [0u16; 1];
+    match parcel::read_parcel(parcel, &mut memory, &mut edges) {
+        Read::Counts {
+            code: _,
+            edges: _,
+            data: _,
+        } => 5,
+        Read::Refused(why, _) => wide8(answers::number(why)),
+    }
+}
+
+fn put_counts(counts: &mut [u64], code: usize, edges: usize, words: usize)
+    requires { ⌜ 3 ≤ length (now counts) ⌝ }
+    ensures { λ _. ⌜ now (counts .exit) ≡ putOver (code ∷ edges ∷ words ∷ []) (now (counts .entry)) ⌝ }
+{
+    counts[0] = code as u64;
+    counts[1] = edges as u64;
+    counts[2] = words as u64;
+}
+
+fn is_shaped(memory: &[u64], n: usize, edges: &[u16]) -> bool
+    ensures { λ r. ⌜ r ≡ shaped (now (memory .entry)) n (now (edges .entry)) ⌝ }
+{
+    lists::both(
+        answers::memory_shaped(memory.len(), n),
+        answers::edges_shaped(edges.len()),
+    )
+}
+
+fn ending_number(ending: Ending) -> u32
+    ensures { λ r. ⌜ r ≡ endingNumber ending ⌝ }
+{
+    match ending {
+        Ending::Spent => 0,
+        Ending::Stopped(stop) => wide8(machine::stop_number(stop)),
+        Ending::Refused(refusal) => wide8(answers::number(refusal)),
+    }
+}
+
+fn written_number(written: Written) -> u32
+    ensures { λ r. ⌜ r ≡ writtenNumber written ⌝ }
+{
+    match written {
+        Written::Done => 0,
+        Written::Refused(refusal) => wide8(answers::number(refusal)),
+    }
+}
+
+fn wide8(x: u8) -> u32
+    ensures { λ r. ⌜ r ≡ x ⌝ }
+{
+    x as u32
+}
+
+fn wide16(x: u16) -> u64
+    ensures { λ r. ⌜ r ≡ x ⌝ }
+{
+    x as u64
+}
