@@ -1,1 +1,2 @@
-// The claimed graph: successors, destinations, target sets and IDs, and the rules about them (numbers 7 to 12).
+// The claimed graph: edges, successors, destinations, target sets and IDs, and what breaks rules 7 to 10 and 12. This crate holds
+// definitions and laws; the code is in `checker`.

@@ -1,4 +1,4 @@
-// Guard sequences as data, and the rules about them (numbers 13 to 15).
+// Guard sequences as data, and what breaks rules 13 to 15. This crate holds definitions and laws; the code is in `checker`.
 use isa::Instr;
 
 // A word of a guard sequence: an instruction, of which register field b or the immediate w may be free.

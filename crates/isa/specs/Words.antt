@@ -21,7 +21,7 @@ kindOf opcode =
     (cond (eqb opcode 7) Kind.Ld
     (cond (eqb opcode 8) Kind.St Kind.Unknown))))))))
 
--- Unknown has no opcode: nothing of that kind is written, and the number here is never used.
+-- Unknown has no opcode, so nothing of that kind is written; 255 stands for it where a kind is told by its number.
 abbrev pub opcodeOf : Kind → ℕ
 opcodeOf Kind.Label = 0
 opcodeOf Kind.Add = 1
