@@ -10,3 +10,7 @@ memoryShaped len n = leb 1 n && (leb n 2048 && (leb n len && leb (len - n) 2048)
 -- not: "the edge numbers are odd in count or above 4,096"
 abbrev pub edgesShaped : ℕ → Bool
 edgesShaped count = eqb (count % 2) 0 && leb count 4096
+
+-- a memory of len words, n of them code, and so many edge numbers
+abbrev pub callShaped : ℕ → ℕ → ℕ → Bool
+callShaped len n count = memoryShaped len n && edgesShaped count

@@ -2,7 +2,7 @@
 // which every call on memory and graph makes first.
 ghost use mathlib.Core.Path.{_≡_};
 ghost use Rattle.answers.specs.Numbers.{refusalNumber};
-ghost use Rattle.answers.specs.Shape.{memoryShaped, edgesShaped};
+ghost use Rattle.answers.specs.Shape.{memoryShaped, edgesShaped, callShaped};
 
 pub enum Refusal {
     CountMissing,
@@ -77,8 +77,15 @@ pub fn memory_shaped(len: usize, n: usize) -> bool
     len - n <= 2048
 }
 
+// What a call on memory and graph must be given: such a memory, and edge numbers.
+pub fn call_shaped(len: usize, n: usize, count: usize) -> bool
+    ensures { λ r. ⌜ r ≡ callShaped len n count ⌝ }
+{
+    lists::both(memory_shaped(len, n), edges_shaped(count))
+}
+
 // Pairs of edge numbers, at most 2,048 of them.
-pub fn edges_shaped(count: usize) -> bool
+fn edges_shaped(count: usize) -> bool
     ensures { λ r. ⌜ r ≡ edgesShaped count ⌝ }
 {
     if count % 2 == 0 {

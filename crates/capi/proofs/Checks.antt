@@ -5,9 +5,8 @@ use mathlib.Core.List.{List}
 use Prim.Native.Nat.{ℕ}
 use Rattle.answers.specs.declared.Verdict.{Verdict}
 use Rattle.isa.specs.declared.Technique.{Technique}
-use Rattle.parcel.specs.Bytes.{putOver}
+use Rattle.lists.specs.Places.{shorter, putOver}
 use Rattle.checker.specs.Verdicts.{verdictOf}
-use Rattle.capi.specs.Words.{shorter}
 use Rattle.capi.specs.States.{techniqueOf}
 use Rattle.capi.specs.Checks.{verdictNumber, placeNumbers, verdictPlace, CheckCall}
 

@@ -1,6 +1,5 @@
-pub mod Copies
 pub mod Words
-pub mod Steps
+pub mod States
 pub mod Checks
 pub mod Parcels
 pub mod Unchanged

@@ -8,11 +8,12 @@ use lib.Dec.{ltb}
 use Rattle.answers.specs.declared.Refusal.{Refusal}
 use Rattle.answers.specs.declared.Place.{Place}
 use Rattle.answers.specs.Numbers.{refusalNumber}
+use Rattle.answers.specs.Shape.{callShaped}
 use Rattle.parcel.specs.declared.Read.{Read}
 use Rattle.parcel.specs.declared.Written.{Written}
 use Rattle.parcel.specs.Parcel.{Content, holds, refused, readOf, countsOf, roomFor, memoryIn, edgesIn, afterRead, afterWrite, ReadSo, WrittenSo}
-use Rattle.capi.specs.Words.{shorter}
-use Rattle.capi.specs.Parcels.{readNumber, noPlace, readCall, countsAfter, ReadCall, writtenNumber, shaped, bytesIn, writeCall, countAfter, WriteCall}
+use Rattle.lists.specs.Places.{shorter}
+use Rattle.capi.specs.Parcels.{readNumber, noPlace, readCall, countsAfter, ReadCall, writtenNumber, bytesIn, writeCall, countAfter, WriteCall}
 
 either-way : (b : Bool) (code edges words : ℕ) → noPlace (cond b (Read.Refused Refusal.PlaceTooShort Place.Nowhere) (Read.Counts code edges words)) ≡ Read.Refused Refusal.PlaceTooShort Place.Nowhere
 either-way true code edges words = refl
@@ -50,7 +51,7 @@ read-done s m g k a l so e f =
       counts-after = f ∙ ap (λ (x : Read). countsAfter x k) same;
     }
 
-pub write-short : (m : List ℕ) (n : ℕ) (g s k : List ℕ) (why : Refusal) {r : ℕ} → shorter k 1 ≡ true → cond (shaped m n g) Refusal.PlaceTooShort Refusal.Shape ≡ why → r ≡ refusalNumber why → WriteCall m n g s k r s k
+pub write-short : (m : List ℕ) (n : ℕ) (g s k : List ℕ) (why : Refusal) {r : ℕ} → shorter k 1 ≡ true → cond (callShaped (length m) n (length g)) Refusal.PlaceTooShort Refusal.Shape ≡ why → r ≡ refusalNumber why → WriteCall m n g s k r s k
 write-short m n g s k why l w e =
     let same : Written.Refused why Place.Nowhere ≡ writeCall m n g s k = rw l (ap (λ (x : Refusal). Written.Refused x Place.Nowhere) (sym w)) in
     record {

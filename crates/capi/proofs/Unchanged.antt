@@ -1,10 +1,9 @@
 -- Refused calls change nothing: the words of a state, put back where they came from, are the same words.
-use Prim.Native.Nat.{ℕ, _≤_}
-use mathlib.Core.Path.{_≡_, refl, sym, ap, _∙_}
+use Prim.Native.Nat.{ℕ}
+use mathlib.Core.Path.{_≡_, refl, ap, _∙_}
 use mathlib.Core.Bool.{Bool, true, false, cond, _&&_}
-use mathlib.Core.List.{List, _++_}
-use lib.ListN.{length, take, drop, set, take-append-drop}
-use lib.Seq.{take-suc, length-take-le}
+use mathlib.Core.List.{List}
+use lib.ListN.{length, set}
 use borrow.Author.Tests.{ltb-false}
 use Rattle.answers.specs.declared.Refusal.{Refusal}
 use Rattle.answers.specs.Shape.{memoryShaped}
@@ -15,17 +14,12 @@ use Rattle.machine.specs.Numbers.{outcomeNumber, writtenNumber}
 use Rattle.machine.specs.Steps.{stepOf}
 use Rattle.machine.specs.Bus.{inData, writable, writeDataOf, writeDataMemory, writeRegisterOf}
 use Rattle.machine.specs.Runs.{runOf, runMemory}
+use Rattle.machine.specs.Lent.{stateIn, wordsOf}
 use Rattle.machine.proofs.Theorems.{unmade-changes-nothing}
-use Rattle.parcel.specs.Bytes.{putOver}
-use Rattle.capi.specs.Words.{shorter}
-use Rattle.capi.specs.States.{techniqueOf, stateIn, wordsOf, StepCall, RunCall, WriteDataCall, WriteRegisterCall}
+use Rattle.machine.proofs.Lent.{put-back}
+use Rattle.lists.specs.Places.{shorter, putOver}
+use Rattle.capi.specs.States.{techniqueOf, StepCall, RunCall, WriteDataCall, WriteRegisterCall}
 use Rattle.capi.specs.Theorems.{RefusedChangesNothing}
-
-put-back : (words : List ℕ) → 33 ≤ length words → putOver (wordsOf (stateIn words)) words ≡ words
-put-back words h =
-    ap (λ (l : List ℕ). putOver l words) (sym (take-suc words 32 0 h))
-    ∙ ap (λ (n : ℕ). take 33 words ++ drop n words) (length-take-le 33 words h)
-    ∙ take-append-drop 33 words
 
 same-state : (words : List ℕ) (s : State) → shorter words 33 ≡ false → s ≡ stateIn words → putOver (wordsOf s) words ≡ words
 same-state words s l e = ap (λ (x : State). putOver (wordsOf x) words) e ∙ put-back words (ltb-false _ _ l)

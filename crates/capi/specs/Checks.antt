@@ -6,9 +6,9 @@ use mathlib.Core.List.{List, [], _∷_}
 use Rattle.answers.specs.declared.Place.{Place}
 use Rattle.answers.specs.declared.Verdict.{Verdict}
 use Rattle.answers.specs.Numbers.{refusalNumber}
-use Rattle.parcel.specs.Bytes.{putOver}
+use Rattle.lists.specs.Places.{shorter, putOver}
 use Rattle.checker.specs.Verdicts.{verdictOf}
-use Rattle.capi.specs.Words.{tooShort, shorter}
+use Rattle.capi.specs.Words.{tooShort}
 use Rattle.capi.specs.States.{techniqueOf}
 
 -- 0 where the program is accepted

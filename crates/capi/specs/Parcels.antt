@@ -1,18 +1,17 @@
 -- The calls on parcels (document 01, "Parcel").
 use Prim.Native.Nat.{ℕ}
 use mathlib.Core.Path.{_≡_}
-use mathlib.Core.Bool.{Bool, cond, _&&_}
+use mathlib.Core.Bool.{cond}
 use mathlib.Core.List.{List, [], _∷_}
 use lib.ListN.{length, take, drop}
 use Rattle.answers.specs.declared.Refusal.{Refusal}
 use Rattle.answers.specs.declared.Place.{Place}
 use Rattle.answers.specs.Numbers.{refusalNumber}
-use Rattle.answers.specs.Shape.{memoryShaped, edgesShaped}
+use Rattle.answers.specs.Shape.{callShaped}
 use Rattle.parcel.specs.declared.Read.{Read}
 use Rattle.parcel.specs.declared.Written.{Written}
-use Rattle.parcel.specs.Bytes.{putOver}
+use Rattle.lists.specs.Places.{shorter, putOver}
 use Rattle.parcel.specs.Parcel.{readOf, countsOf, roomFor, memoryIn, edgesIn, afterRead, parcelOf, writtenOf, afterWrite}
-use Rattle.capi.specs.Words.{shorter}
 
 -- 0 where the parcel is read
 abbrev pub readNumber : Read → ℕ
@@ -46,9 +45,6 @@ abbrev pub writtenNumber : Written → ℕ
 writtenNumber (Written.Bytes size) = 0
 writtenNumber (Written.Refused why place) = refusalNumber why
 
-abbrev pub shaped : List ℕ → ℕ → List ℕ → Bool
-shaped memory n edges = memoryShaped (length memory) n && edgesShaped (length edges)
-
 abbrev pub bytesIn : List ℕ → ℕ → List ℕ → List ℕ
 bytesIn memory n edges = parcelOf 2 (take n memory) edges (drop n memory)
 
@@ -56,8 +52,8 @@ bytesIn memory n edges = parcelOf 2 (take n memory) edges (drop n memory)
 abbrev pub writeCall : List ℕ → ℕ → List ℕ → List ℕ → List ℕ → Written
 writeCall memory n edges parcel count =
     cond (shorter count 1)
-    (Written.Refused (cond (shaped memory n edges) Refusal.PlaceTooShort Refusal.Shape) Place.Nowhere)
-    (writtenOf (shaped memory n edges) (length parcel) (bytesIn memory n edges))
+    (Written.Refused (cond (callShaped (length memory) n (length edges)) Refusal.PlaceTooShort Refusal.Shape) Place.Nowhere)
+    (writtenOf (callShaped (length memory) n (length edges)) (length parcel) (bytesIn memory n edges))
 
 abbrev pub countAfter : Written → List ℕ → List ℕ
 countAfter (Written.Bytes size) count = putOver (size ∷ []) count

@@ -1,28 +1,21 @@
--- The calls on states: a state is lent as 33 words, r0 to r31 and then the pc. Words after the 33rd are never touched.
+-- The calls on states, lent as `machine` takes them: 33 words, r0 to r31 and then the pc.
 use Prim.Native.Nat.{ℕ}
 use mathlib.Core.Path.{_≡_}
 use mathlib.Core.Bool.{cond, _||_}
-use mathlib.Core.List.{List, [], _∷_, _++_}
-use lib.ListN.{take, getD}
+use mathlib.Core.List.{List, [], _∷_}
 use lib.Dec.{eqb}
 use Rattle.isa.specs.declared.Technique.{Technique}
-use Rattle.machine.specs.declared.State.{State}
 use Rattle.machine.specs.Numbers.{outcomeNumber, endingNumber, writtenNumber}
-use Rattle.machine.specs.Steps.{stateOf, stepOf, stepMemory}
+use Rattle.machine.specs.Steps.{stepOf, stepMemory}
 use Rattle.machine.specs.Bus.{writeDataOf, writeDataMemory, writeRegisterOf}
 use Rattle.machine.specs.Runs.{runOf, runMemory}
-use Rattle.parcel.specs.Bytes.{putOver}
-use Rattle.capi.specs.Words.{tooShort, shorter}
+use Rattle.machine.specs.Lent.{stateIn, wordsOf}
+use Rattle.lists.specs.Places.{shorter, putOver}
+use Rattle.capi.specs.Words.{tooShort}
 
 -- 0 is plain, any other number is with memory guards
 abbrev pub techniqueOf : ℕ → Technique
 techniqueOf number = cond (eqb number 0) Technique.Plain Technique.MemoryGuards
-
-abbrev pub stateIn : List ℕ → State
-stateIn words = stateOf (take 32 words) (getD words 32 0)
-
-abbrev pub wordsOf : State → List ℕ
-wordsOf s = s .regs ++ (s .pc ∷ [])
 
 -- the contract of `pg_step`: its answer r, and the state and the memory that it leaves. Where no step is made, `stepOf` gives
 -- back the state that it was given, and so every word stays as it was.

@@ -1,23 +1,17 @@
 -- The calls on instruction words: an instruction as five numbers, its opcode, a, b, c and w (document 01, "Words and memory").
 use Prim.Native.Nat.{ℕ}
 use mathlib.Core.Path.{_≡_}
-use mathlib.Core.Bool.{Bool, cond}
+use mathlib.Core.Bool.{cond}
 use mathlib.Core.List.{List, [], _∷_}
-use lib.ListN.{length}
-use lib.Dec.{ltb}
 use Rattle.answers.specs.declared.Refusal.{Refusal}
 use Rattle.answers.specs.Numbers.{refusalNumber}
 use Rattle.isa.specs.declared.Fields.{Fields}
 use Rattle.isa.specs.Words.{kindOf, opcodeOf, fields, instrOf, fieldsOf, decodeOf, encodeOf}
-use Rattle.parcel.specs.Bytes.{putOver}
+use Rattle.lists.specs.Places.{shorter, putOver}
 
 -- "5. A place lent to reader or writer is too short": here the number of every call whose place is
 abbrev pub tooShort : ℕ
 tooShort = refusalNumber Refusal.PlaceTooShort
-
--- the place has fewer than k numbers
-abbrev pub shorter : List ℕ → ℕ → Bool
-shorter place k = ltb (length place) k
 
 abbrev pub numbersOf : Fields → List ℕ
 numbersOf f = opcodeOf (f .kind) ∷ f .a ∷ f .b ∷ f .c ∷ f .w ∷ []

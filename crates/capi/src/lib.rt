@@ -5,18 +5,18 @@ ghost use lib.ListN.{length};
 ghost use mathlib.Core.List.{[], _∷_};
 ghost use Rattle.isa.specs.Words.{kindOf, instrOf, fields};
 ghost use Rattle.machine.specs.Numbers.{endingNumber, writtenNumber};
-ghost use Rattle.parcel.specs.Bytes.{putOver};
+ghost use Rattle.lists.specs.Places.{putOver};
 ghost use Rattle.capi.specs.Words.{DecodeCall, encodeCall};
-ghost use Rattle.capi.specs.States.{techniqueOf, stateIn, wordsOf, StepCall, RunCall, WriteDataCall, WriteRegisterCall};
+ghost use Rattle.capi.specs.States.{techniqueOf, StepCall, RunCall, WriteDataCall, WriteRegisterCall};
+ghost use Rattle.capi.specs.Inside.{Ordered, RunNumber};
 ghost use Rattle.capi.specs.Checks.{placeNumbers, CheckCall};
 ghost use Rattle.parcel.specs.Parcel.{readOf, countsOf};
-ghost use Rattle.capi.specs.Parcels.{readNumber, noPlace, shaped, ReadCall, WriteCall};
+ghost use Rattle.capi.specs.Parcels.{readNumber, noPlace, ReadCall, WriteCall};
 use answers::Place;
 use answers::Verdict;
 use isa::Instr;
 use isa::Technique;
 use machine::Ending;
-use machine::State;
 use machine::Written;
 use parcel::Read;
 
@@ -47,19 +47,13 @@ pub extern "C" fn pg_encode(opcode: u8, a: u8, b: u8, c: u8, w: u32) -> u64
     isa::encode(instr_of(opcode, a, b, c, w))
 }
 
-// A step is a run with limit 1: the loop of `run` is then the one place where the compiler puts the whole of a step.
+// A step is a run with limit 1.
 #[no_mangle]
 pub extern "C" fn pg_step(technique: u8, state: &mut [u64], memory: &mut [u64], n: usize) -> u32
     ensures { λ r. ⌜ StepCall technique n (now (state .entry)) (now (memory .entry)) r (now (state .exit)) (now (memory .exit)) ⌝ }
 {
-    if state.len() < 33 {
-        return 5;
-    }
-    let ran = machine::run(technique_of(technique), state_in(&state[..]), memory, n, 1);
-    let after = ran.state;
-    let ending = ran.ending;
-    put_state(state, after);
-    ending_number(ending)
+    let ran = run_number(order_of(technique, 1), state, memory, n);
+    (ran % 0x1_0000_0000) as u32
 }
 
 #[no_mangle]
@@ -79,18 +73,9 @@ pub extern "C" fn pg_run(
     if count.len() < 1 {
         return 5;
     }
-    let ran = machine::run(
-        technique_of(technique),
-        state_in(&state[..]),
-        memory,
-        n,
-        limit,
-    );
-    let after = ran.state;
-    let ending = ran.ending;
-    put_state(state, after);
-    count[0] = wide16(ran.count);
-    ending_number(ending)
+    let ran = run_number(order_of(technique, limit), state, memory, n);
+    count[0] = ran / 0x1_0000_0000;
+    (ran % 0x1_0000_0000) as u32
 }
 
 #[no_mangle]
@@ -104,14 +89,7 @@ pub extern "C" fn pg_write_data(memory: &mut [u64], n: usize, address: u64, word
 pub extern "C" fn pg_write_register(state: &mut [u64], register: u64, word: u64) -> u32
     ensures { λ r. ⌜ WriteRegisterCall (now (state .entry)) register word r (now (state .exit)) ⌝ }
 {
-    if state.len() < 33 {
-        return 5;
-    }
-    let written = machine::write_register(state_in(&state[..]), register, word);
-    let after = written.state;
-    let answer = written.answer;
-    put_state(state, after);
-    written_number(answer)
+    written_number(machine::write_register_lent(state, register, word))
 }
 
 #[no_mangle]
@@ -175,7 +153,7 @@ pub extern "C" fn pg_write_parcel(
     ensures { λ r. ⌜ WriteCall (now (memory .entry)) n (now (edges .entry)) (now (parcel .entry)) (now (count .entry)) r (now (parcel .exit)) (now (count .exit)) ⌝ }
 {
     if count.len() < 1 {
-        if is_shaped(memory, n, edges) {
+        if answers::call_shaped(memory.len(), n, edges.len()) {
             return 5;
         }
         return 6;
@@ -187,6 +165,24 @@ pub extern "C" fn pg_write_parcel(
         }
         parcel::Written::Refused(why, _) => wide8(answers::number(why)),
     }
+}
+
+// A technique's number and a limit in one number: so a run takes six numbers, which all go in registers.
+fn order_of(technique: u8, limit: u16) -> u32
+    ensures { λ r. ⌜ Ordered technique limit r ⌝ }
+{
+    limit as u32 * 256 + wide8(technique)
+}
+
+// The run by such a number; its answer and its count come back in one number, in a register.
+fn run_number(order: u32, state: &mut [u64], memory: &mut [u64], n: usize) -> u64
+    ensures { λ r. ⌜ RunNumber order n (now (state .entry)) (now (memory .entry)) r (now (state .exit)) (now (memory .exit)) ⌝ }
+{
+    let technique = (order % 256) as u8;
+    let limit = (order / 256 % 65536) as u16;
+    let ended = machine::run_lent(technique_of(technique), state, memory, n, limit);
+    let ending = ended.ending;
+    wide16(ended.count) * 0x1_0000_0000 + wide32(ending_number(ending))
 }
 
 fn technique_of(number: u8) -> Technique
@@ -226,35 +222,6 @@ fn put_fields(place: &mut [u32], opcode: u8, a: u8, b: u8, c: u8, w: u32)
     place[2] = wide8(b);
     place[3] = wide8(c);
     place[4] = w;
-}
-
-fn state_in(words: &[u64]) -> State
-    requires { ⌜ 33 ≤ length (now words) ⌝ }
-    ensures { λ r. ⌜ r ≡ stateIn (now (words .entry)) ⌝ }
-{
-    let mut regs = [0u64; 32];
-    let mut i = 0;
-    while i < 32 {
-        regs[i] = words[i];
-        i += 1;
-    }
-    State {
-        regs: regs,
-        pc: words[32],
-    }
-}
-
-fn put_state(words: &mut [u64], state: State)
-    requires { ⌜ 33 ≤ length (now words) ⌝ }
-    ensures { λ _. ⌜ now (words .exit) ≡ putOver (wordsOf state) (now (words .entry)) ⌝ }
-{
-    let regs = state.regs;
-    let mut i = 0;
-    while i < 32 {
-        words[i] = regs[i];
-        i += 1;
-    }
-    words[32] = state.pc;
 }
 
 // Which kind of place it is, and the place.
@@ -302,15 +269,6 @@ fn put_counts(counts: &mut [u64], code: usize, edges: usize, words: usize)
     counts[2] = words as u64;
 }
 
-fn is_shaped(memory: &[u64], n: usize, edges: &[u16]) -> bool
-    ensures { λ r. ⌜ r ≡ shaped (now (memory .entry)) n (now (edges .entry)) ⌝ }
-{
-    lists::both(
-        answers::memory_shaped(memory.len(), n),
-        answers::edges_shaped(edges.len()),
-    )
-}
-
 fn ending_number(ending: Ending) -> u32
     ensures { λ r. ⌜ r ≡ endingNumber ending ⌝ }
 {
@@ -334,6 +292,12 @@ fn wide8(x: u8) -> u32
     ensures { λ r. ⌜ r ≡ x ⌝ }
 {
     x as u32
+}
+
+fn wide32(x: u32) -> u64
+    ensures { λ r. ⌜ r ≡ x ⌝ }
+{
+    x as u64
 }
 
 fn wide16(x: u16) -> u64

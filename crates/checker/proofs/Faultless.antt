@@ -1,7 +1,7 @@
 -- Accepted exactly where no rule has a faulty place: down the list of rules, each a search that finds nothing.
 use Prim.Native.Nat.{ℕ, _-_}
 use mathlib.Core.Path.{_≡_, refl, ap}
-use mathlib.Core.Bool.{Bool, true, false, not, cond, _&&_}
+use mathlib.Core.Bool.{Bool, true, false, not, cond}
 use mathlib.Core.List.{List, [], _∷_}
 use native.Mathlib.Omega.{arith}
 use lib.ListN.{length}
@@ -11,7 +11,7 @@ use Rattle.lists.specs.Search.{lowest}
 use Rattle.lists.proofs.Bools.{clash}
 use Rattle.lists.proofs.Search.{Clean, lowest-is, lowest-none}
 use Rattle.answers.specs.declared.Verdict.{Verdict}
-use Rattle.answers.specs.Shape.{memoryShaped, edgesShaped}
+use Rattle.answers.specs.Shape.{callShaped}
 use Rattle.isa.specs.declared.Technique.{Technique}
 use Rattle.isa.specs.Instructions.{instrAt, isIllegal}
 use Rattle.graph.specs.Claim.{edgeCount}
@@ -47,7 +47,7 @@ accepts (rule ∷ rules) p =
 
 -- no rule has a faulty place
 pub record Faultless (t : Technique) (memory : List ℕ) (n : ℕ) (edges : List ℕ) : Type 0 where
-  pub shape : (memoryShaped (length memory) n && edgesShaped (length edges)) ≡ true
+  pub shape : callShaped (length memory) n (length edges) ≡ true
   pub edges-start : Clean (startsAtNoJump memory n edges) (edgeCount edges)
   pub edges-end : Clean (endsOutsideCode n edges) (edgeCount edges)
   pub jumps-leave : Clean (lacksEdge memory edges) n

@@ -1,13 +1,12 @@
 -- The published conditions, in the order and the words of 000: the claimed graph is a CFG for the code (section 3), and the
 -- code and its graph satisfy I (4.1) or, with memory guards, I_s (5.1), as document 01 makes them finite.
-use Prim.Native.Nat.{ℕ, suc, _+_, _-_, _≤_, _<_}
+use Prim.Native.Nat.{ℕ, _+_, _-_, _≤_, _<_}
 use mathlib.Core.Path.{_≡_}
-use mathlib.Core.Bool.{true, _&&_}
-use mathlib.Core.Logic.{_⊎_}
+use mathlib.Core.Bool.{true}
 use mathlib.Core.Option.{some}
 use mathlib.Core.List.{List}
 use lib.ListN.{length}
-use Rattle.answers.specs.Shape.{memoryShaped, edgesShaped}
+use Rattle.answers.specs.Shape.{callShaped}
 use Rattle.isa.specs.declared.Instr.{Instr}
 use Rattle.isa.specs.declared.Technique.{Technique}
 use Rattle.isa.specs.Instructions.{instrAt, branchTarget}
@@ -87,6 +86,6 @@ module _ (t : Technique) (memory : List ℕ) (n : ℕ) (edges : List ℕ) where
 
   -- what a call on memory and graph must be given (number 6), and the published conditions
   pub record Conditions : Type 0 where
-    pub shape : (memoryShaped (length memory) n && edgesShaped (length edges)) ≡ true
+    pub shape : callShaped (length memory) n (length edges) ≡ true
     pub graph : Graph
     pub instrumented : Instrumented

@@ -1,6 +1,6 @@
 -- The verdict (document 01, "Numbers given, in checking order"): the first rule with a faulty place answers, at its first one.
 use Prim.Native.Nat.{ℕ, _-_}
-use mathlib.Core.Bool.{Bool, true, false, not, cond, _&&_}
+use mathlib.Core.Bool.{Bool, not, cond}
 use mathlib.Core.List.{List, [], _∷_}
 use lib.ListN.{length}
 use lib.Dec.{ltb}
@@ -8,7 +8,7 @@ use Rattle.lists.specs.Search.{lowest}
 use Rattle.answers.specs.declared.Refusal.{Refusal}
 use Rattle.answers.specs.declared.Place.{Place}
 use Rattle.answers.specs.declared.Verdict.{Verdict}
-use Rattle.answers.specs.Shape.{memoryShaped, edgesShaped}
+use Rattle.answers.specs.Shape.{callShaped}
 use Rattle.isa.specs.declared.Technique.{Technique}
 use Rattle.isa.specs.Instructions.{instrAt, isIllegal}
 use Rattle.graph.specs.Claim.{edgeCount}
@@ -67,7 +67,7 @@ guardRules t memory n edges =
 -- 6 first, then 7 to 15
 abbrev pub rulesOf : Technique → List ℕ → ℕ → List ℕ → List Rule
 rulesOf t memory n edges =
-    ruleOnce Refusal.Shape (not (memoryShaped (length memory) n && edgesShaped (length edges))) Place.Nowhere
+    ruleOnce Refusal.Shape (not (callShaped (length memory) n (length edges))) Place.Nowhere
     ∷ graphRules memory n edges (labelRules memory n edges (guardRules t memory n edges))
 
 -- memory is n words of code and then the data; edges are the edge numbers as they are lent

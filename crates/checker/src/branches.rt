@@ -1,13 +1,11 @@
 // Targets of bgt and jd: rule 15. Where rules 13 and 14 have passed, a word is inside a guard sequence exactly when a jmp, or a
 // st, stands within the next few words.
 ghost use mathlib.Core.Path.{_≡_};
-ghost use mathlib.Core.Bool.{_||_};
 ghost use Prim.Native.Nat.{min, _<_, _≤_};
 ghost use lib.ListN.{length};
 ghost use Rattle.lists.specs.Search.{lowest};
-ghost use Rattle.isa.specs.declared.Kind.{Kind};
 ghost use Rattle.isa.specs.Words.{decodeOf};
-ghost use Rattle.isa.specs.Instructions.{instrAt, isKind};
+ghost use Rattle.isa.specs.Instructions.{instrAt, isBranch};
 ghost use Rattle.guards.specs.Rules.{branchWrong};
 ghost use Rattle.guards.specs.Patterns.{endingNear, endingKind, targetBad, branchBad, GuardsKept};
 use crate::code::jump_at;
@@ -48,7 +46,7 @@ fn is_wrong_branch(technique: Technique, memory: &[u64], n: usize, a: usize) -> 
 }
 
 fn is_branch(word: u64) -> bool
-    ensures { λ r. ⌜ r ≡ (isKind Kind.Bgt (decodeOf word) || isKind Kind.Jd (decodeOf word)) ⌝ }
+    ensures { λ r. ⌜ r ≡ isBranch (decodeOf word) ⌝ }
 {
     if is_a(Kind::Bgt, word) {
         return true;

@@ -18,8 +18,7 @@ mod unguarded;
 use answers::Place;
 use answers::Refusal;
 use answers::Verdict;
-use answers::edges_shaped;
-use answers::memory_shaped;
+use answers::call_shaped;
 use branches::first_wrong_branch;
 use code::illegal_at;
 use edges::first_from_no_jump;
@@ -28,7 +27,6 @@ use edges::first_without_edge;
 use edges::lowest_targets;
 use isa::Technique;
 use labels::first_label_wrong;
-use lists::both;
 use sets::first_overlap;
 use sets::owners;
 use unguarded::first_bare_jump;
@@ -39,7 +37,7 @@ use unguarded::first_bare_store;
 pub fn check(technique: Technique, memory: &[u64], n: usize, edges: &[u16]) -> Verdict
     ensures { λ r. ⌜ r ≡ verdictOf technique (now (memory .entry)) n (now (edges .entry)) ⌝ }
 {
-    if both(memory_shaped(memory.len(), n), edges_shaped(edges.len())) {
+    if call_shaped(memory.len(), n, edges.len()) {
         return check_edges(technique, memory, n, edges);
     }
     Verdict::Refused(Refusal::Shape, Place::Nowhere)

@@ -17,33 +17,56 @@ pub(crate) fn jump_words(technique: Technique, n: usize) -> [u64; 10]
     requires { ⌜ (1 ≤ n) × (n ≤ 2048) ⌝ }
     ensures { λ r. ⌜ r ≡ wordsOf 10 (jumpGuard technique n 0) ⌝ }
 {
-    let halt = (n - 1) as u32;
     match technique {
-        Technique::Plain => [
-            encode(Instr::Addi(0, 0, 0)),
-            encode(Instr::Ld(1, 0, 0)),
-            encode(Instr::Movi(2, 0)),
-            encode(Instr::Bgt(1, 2, halt)),
-            encode(Instr::Bgt(2, 1, halt)),
-            encode(Instr::Jmp(0)),
-            0,
-            0,
-            0,
-            0,
-        ],
-        Technique::MemoryGuards => [
-            encode(Instr::Addi(0, 0, 0)),
-            encode(Instr::Movi(1, halt)),
-            encode(Instr::Movi(2, 0)),
-            encode(Instr::Bgt(0, 1, halt)),
-            encode(Instr::Bgt(2, 0, halt)),
-            encode(Instr::Ld(1, 0, 0)),
-            encode(Instr::Movi(2, 0)),
-            encode(Instr::Bgt(1, 2, halt)),
-            encode(Instr::Bgt(2, 1, halt)),
-            encode(Instr::Jmp(0)),
-        ],
+        Technique::Plain => plain_jump_words(n),
+        Technique::MemoryGuards => guarded_jump_words(n),
     }
+}
+
+fn plain_jump_words(n: usize) -> [u64; 10]
+    requires { ⌜ (1 ≤ n) × (n ≤ 2048) ⌝ }
+    ensures { λ r. ⌜ r ≡ wordsOf 10 (jumpGuard Technique.Plain n 0) ⌝ }
+{
+    let halt = halt_of(n);
+    [
+        encode(Instr::Addi(0, 0, 0)),
+        encode(Instr::Ld(1, 0, 0)),
+        encode(Instr::Movi(2, 0)),
+        encode(Instr::Bgt(1, 2, halt)),
+        encode(Instr::Bgt(2, 1, halt)),
+        encode(Instr::Jmp(0)),
+        0,
+        0,
+        0,
+        0,
+    ]
+}
+
+fn guarded_jump_words(n: usize) -> [u64; 10]
+    requires { ⌜ (1 ≤ n) × (n ≤ 2048) ⌝ }
+    ensures { λ r. ⌜ r ≡ wordsOf 10 (jumpGuard Technique.MemoryGuards n 0) ⌝ }
+{
+    let halt = halt_of(n);
+    [
+        encode(Instr::Addi(0, 0, 0)),
+        encode(Instr::Movi(1, halt)),
+        encode(Instr::Movi(2, 0)),
+        encode(Instr::Bgt(0, 1, halt)),
+        encode(Instr::Bgt(2, 0, halt)),
+        encode(Instr::Ld(1, 0, 0)),
+        encode(Instr::Movi(2, 0)),
+        encode(Instr::Bgt(1, 2, halt)),
+        encode(Instr::Bgt(2, 1, halt)),
+        encode(Instr::Jmp(0)),
+    ]
+}
+
+// HALT: the address of the last code word.
+fn halt_of(n: usize) -> u32
+    requires { ⌜ (1 ≤ n) × (n ≤ 2048) ⌝ }
+    ensures { λ r. ⌜ r ≡ n - 1 ⌝ }
+{
+    (n - 1) as u32
 }
 
 // Another ID in these words.
@@ -85,15 +108,15 @@ pub(crate) fn store_words(n: usize, len: usize) -> [u64; 10]
     requires { ⌜ (1 ≤ n) × (n ≤ 2048) × (n ≤ len) × (len ≤ 4096) ⌝ }
     ensures { λ r. ⌜ r ≡ wordsOf 10 (storeGuard n len) ⌝ }
 {
-    let last = (n - 1) as u32;
+    let halt = halt_of(n);
     let top = (len - 1) as u32;
     let low = n as u32;
     [
         encode(Instr::Addi(0, 0, 0)),
         encode(Instr::Movi(1, top)),
         encode(Instr::Movi(2, low)),
-        encode(Instr::Bgt(0, 1, last)),
-        encode(Instr::Bgt(2, 0, last)),
+        encode(Instr::Bgt(0, 1, halt)),
+        encode(Instr::Bgt(2, 0, halt)),
         encode(Instr::St(0, 0, 0)),
         0,
         0,

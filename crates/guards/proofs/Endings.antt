@@ -9,7 +9,7 @@ use borrow.Author.Tests.{leb-true, ltb-true, ltb-false, le-leb, lt-leb, le-ltb, 
 use lib.Dec.{ltb, leb}
 use lib.ListN.{length}
 use Rattle.lists.specs.Search.{any}
-use Rattle.lists.proofs.Bools.{clash, and-left, and-right, and-rest, same-bool}
+use Rattle.lists.proofs.Bools.{and-left, and-right, and-rest, same-bool}
 use Rattle.lists.proofs.Search.{Clean, any-ext, any-hit, any-clean}
 use Rattle.isa.specs.declared.Instr.{Instr}
 use Rattle.isa.specs.declared.Technique.{Technique}
@@ -50,29 +50,11 @@ ends-kind kind memory s rest a last guarded =
 
 jump-last : (i : Instr) → fits (just (Instr.Jmp 0)) i ≡ true → isJump i ≡ true
 unfolding fits
-jump-last (Instr.Label w) h = clash (cc)
-jump-last (Instr.Add d s t) h = clash (cc)
-jump-last (Instr.Addi d s w) h = clash (cc)
-jump-last (Instr.Movi d w) h = clash (cc)
-jump-last (Instr.Bgt s t w) h = clash (cc)
-jump-last (Instr.Jd w) h = clash (cc)
-jump-last (Instr.Jmp s) h = refl
-jump-last (Instr.Ld d s w) h = clash (cc)
-jump-last (Instr.St d s w) h = clash (cc)
-jump-last Instr.Illegal h = clash (cc)
+jump-last i h = and-left (isJump i) _ h
 
 store-last : (i : Instr) → fits (anyRegister (Instr.St 0 0 0)) i ≡ true → isStore i ≡ true
 unfolding fits
-store-last (Instr.Label w) h = clash (cc)
-store-last (Instr.Add d s t) h = clash (cc)
-store-last (Instr.Addi d s w) h = clash (cc)
-store-last (Instr.Movi d w) h = clash (cc)
-store-last (Instr.Bgt s t w) h = clash (cc)
-store-last (Instr.Jd w) h = clash (cc)
-store-last (Instr.Jmp s) h = clash (cc)
-store-last (Instr.Ld d s w) h = clash (cc)
-store-last (Instr.St d s w) h = refl
-store-last Instr.Illegal h = clash (cc)
+store-last i h = and-left (isStore i) _ h
 
 near : (x : Bool) {a b : Bool} → a ≡ b → (a && x) ≡ (b && x)
 near x e = ap (λ (z : Bool). z && x) e

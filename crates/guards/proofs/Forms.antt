@@ -1,66 +1,29 @@
 -- A word fits a slot exactly where, its free fields taken out, it is the slot's word.
 use Prim.Native.Nat.{ℕ, _-_, _*_, _/_, _%_, _^_, _<_, _≤_}
 use mathlib.Core.Path.{_≡_, refl, sym, ap, subst, _∙_}
-use mathlib.Core.Bool.{Bool, true, false, cond, _&&_, _||_}
+use mathlib.Core.Bool.{Bool, true, false, cond, _&&_}
 use native.Mathlib.Omega.{arith}
 use borrow.Author.Tests.{eq-eqb, eqb-true, ltb-true, lt-ltb, le-ltb, le-leb}
 use lib.Dec.{eqb, ltb, leb}
-use Rattle.lists.proofs.Bools.{and-left, and-right, both-true, same-bool, clash, true-false}
+use Rattle.lists.proofs.Bools.{and-left, and-right, both-true, same-bool, true-false}
 use Rattle.isa.specs.declared.Kind.{Kind}
 use Rattle.isa.specs.declared.Instr.{Instr}
 use Rattle.isa.specs.declared.Fields.{Fields}
-use Rattle.isa.specs.Words.{opcodeOf, namedBy, registerOk, immediateOk, exact, fields, split, pack, instrOf, fieldsOf, decodeOf}
+use Rattle.isa.specs.Words.{opcodeOf, namedBy, registerOk, immediateOk, known, exact, split, pack, instrOf, fieldsOf, decodeOf}
 use Rattle.isa.proofs.Words.{opcode-kind, pack-split, exact-back, split-pack, decode-exact, encode-exact, word-back, fit}
-use Rattle.isa.proofs.ByKind.{known-opcode, same-kind, legal-fields}
+use Rattle.isa.proofs.ByKind.{legal-fields}
 use Rattle.guards.specs.declared.Slot.{Slot}
-use Rattle.guards.specs.Sequences.{fits}
+use Rattle.guards.specs.Sequences.{fieldsAgree, fits}
 use Rattle.guards.specs.Patterns.{Form, slotOf}
+use Rattle.guards.proofs.Fits.{filledFields, Agrees, agrees}
 
 legal-pack : (x : ℕ) → exact (split x) ≡ true → pack (split x) ≡ x
 legal-pack x e = pack-split x (split x .kind) (opcode-kind (x / 2 ^ 56) (fit (split x) e .is-known))
 
--- the slot's fields with the free ones of another
-abbrev withFree : Fields → Fields → Bool → Bool → Fields
-withFree p f anyB anyW = fields (p .kind) (p .a) (cond anyB (f .b) (p .b)) (p .c) (cond anyW (f .w) (p .w))
-
-abbrev fieldsFit : Fields → Fields → Bool → Bool → Bool
-fieldsFit p f anyB anyW =
-    eqb (opcodeOf (p .kind)) (opcodeOf (f .kind))
-    && (eqb (p .a) (f .a) && ((anyB || eqb (p .b) (f .b)) && (eqb (p .c) (f .c) && (anyW || eqb (p .w) (f .w)))))
-
-record Agrees (p f : Fields) (anyB anyW : Bool) : Type 0 where
-  op : opcodeOf (p .kind) ≡ opcodeOf (f .kind)
-  a : p .a ≡ f .a
-  b : anyB ≡ false → p .b ≡ f .b
-  c : p .c ≡ f .c
-  w : anyW ≡ false → p .w ≡ f .w
-
-or-left-false : (a b : Bool) → (a || b) ≡ true → a ≡ false → b ≡ true
-or-left-false true b h e = clash (cc)
-or-left-false false b h e = h
-
-agrees : (p f : Fields) (anyB anyW : Bool) → fieldsFit p f anyB anyW ≡ true → Agrees p f anyB anyW
-agrees p f anyB anyW e =
-    let t1 = eqb (opcodeOf (p .kind)) (opcodeOf (f .kind)) in
-    let t2 = eqb (p .a) (f .a) in
-    let t3 = anyB || eqb (p .b) (f .b) in
-    let t4 = eqb (p .c) (f .c) in
-    let t5 = anyW || eqb (p .w) (f .w) in
-    let e1 = and-right t1 (t2 && (t3 && (t4 && t5))) e in
-    let e2 = and-right t2 (t3 && (t4 && t5)) e1 in
-    let e3 = and-right t3 (t4 && t5) e2 in
-    record {
-      op = eqb-true _ _ (and-left t1 (t2 && (t3 && (t4 && t5))) e);
-      a = eqb-true _ _ (and-left t2 (t3 && (t4 && t5)) e1);
-      b = λ h. eqb-true _ _ (or-left-false anyB (eqb (p .b) (f .b)) (and-left t3 (t4 && t5) e2) h);
-      c = eqb-true _ _ (and-left t4 t5 e3);
-      w = λ h. eqb-true _ _ (or-left-false anyW (eqb (p .w) (f .w)) (and-right t4 t5 e3) h);
-    }
-
 same : (x : ℕ) → eqb x x ≡ true
 same x = eq-eqb x x refl
 
-free-fit : (p f : Fields) (anyB anyW : Bool) → fieldsFit p (withFree p f anyB anyW) anyB anyW ≡ true
+free-fit : (p f : Fields) (anyB anyW : Bool) → fieldsAgree p (filledFields p f anyB anyW) anyB anyW ≡ true
 free-fit p f true true = rw (same (opcodeOf (p .kind)), same (p .a), same (p .c))
 free-fit p f true false = rw (same (opcodeOf (p .kind)), same (p .a), same (p .c), same (p .w))
 free-fit p f false true = rw (same (opcodeOf (p .kind)), same (p .a), same (p .b), same (p .c))
@@ -81,7 +44,7 @@ module _ (i : Instr) where
   takenW anyW x = cond anyW (x % 2 ^ 32) 0
 
   abbrev q : Bool → Bool → ℕ → Fields
-  q anyB anyW x = withFree p (split x) anyB anyW
+  q anyB anyW x = filledFields p (split x) anyB anyW
 
   free-register : (anyB anyW : Bool) (x : ℕ) → Form (slot anyB anyW) → takenB anyB x < 32
       → registerOk (namedBy (p .kind) .b) (cond anyB (x / 2 ^ 40 % 256) (p .b)) ≡ true
@@ -117,23 +80,23 @@ module _ (i : Instr) where
       let ok = free-exact anyB anyW x h l in
       let parts : split x ≡ q anyB anyW x =
       ap split (sym (free-pack anyB anyW x h e)) ∙ split-pack (q anyB anyW x) ok (free-short anyB anyW x h) in
-      ap (λ (g : Fields). fieldsFit p g anyB anyW) (ap fieldsOf (decode-exact x (q anyB anyW x) parts ok) ∙ exact-back (q anyB anyW x) ok)
+      ap (λ (g : Fields). fieldsAgree p g anyB anyW) (ap fieldsOf (decode-exact x (q anyB anyW x) parts ok) ∙ exact-back (q anyB anyW x) ok)
       ∙ free-fit p (split x) anyB anyW
 
   unpack : (anyB anyW : Bool) (x : ℕ) → Form (slot anyB anyW) → Agrees p (split x) anyB anyW → pack (split x) ≡ x
       → x - takenB anyB x * 2 ^ 40 - takenW anyW x ≡ pack p
   unpack true true x h g e =
       let b = h .register-zero refl in let w = h .immediate-zero refl in
-      let o = g .op in let a = g .a in let c = g .c in omega arith
+      let o = ap opcodeOf (g .kind) in let a = g .a in let c = g .c in omega arith
   unpack true false x h g e =
       let b = h .register-zero refl in let w = g .w refl in
-      let o = g .op in let a = g .a in let c = g .c in omega arith
+      let o = ap opcodeOf (g .kind) in let a = g .a in let c = g .c in omega arith
   unpack false true x h g e =
       let b = g .b refl in let w = h .immediate-zero refl in
-      let o = g .op in let a = g .a in let c = g .c in omega arith
+      let o = ap opcodeOf (g .kind) in let a = g .a in let c = g .c in omega arith
   unpack false false x h g e =
       let b = g .b refl in let w = g .w refl in
-      let o = g .op in let a = g .a in let c = g .c in omega arith
+      let o = ap opcodeOf (g .kind) in let a = g .a in let c = g .c in omega arith
 
   small-register : (anyB anyW : Bool) (x : ℕ) → Form (slot anyB anyW) → p .kind ≡ split x .kind → exact (split x) ≡ true
       → takenB anyB x < 32
@@ -155,15 +118,12 @@ module _ (i : Instr) where
       go : (b : Bool) → exact (split x) ≡ b → Taken anyB anyW x
       go true ok =
           let g = agrees p (split x) anyB anyW
-          (ap (λ (g : Fields). fieldsFit p g anyB anyW) (sym (legal-fields x ok)) ∙ e) in
-          let k = same-kind (p .kind) (split x .kind) (fit p (h .legal) .is-known) (fit (split x) ok .is-known) (g .op) in
-          record { low = small-register anyB anyW x h k ok; rest = unpack anyB anyW x h g (legal-pack x ok) }
+          (ap (λ (g : Fields). fieldsAgree p g anyB anyW) (sym (legal-fields x ok)) ∙ e) in
+          record { low = small-register anyB anyW x h (g .kind) ok; rest = unpack anyB anyW x h g (legal-pack x ok) }
       go false bad =
           let g = agrees p (fieldsOf Instr.Illegal) anyB anyW
-          (ap (λ (b : Bool). fieldsFit p (fieldsOf (cond b (instrOf (split x)) Instr.Illegal)) anyB anyW) (sym bad) ∙ e) in
-          let o = g .op in
-          let k = known-opcode (p .kind) (fit p (h .legal) .is-known) in
-          absurd (omega arith)
+          (ap (λ (b : Bool). fieldsAgree p (fieldsOf (cond b (instrOf (split x)) Instr.Illegal)) anyB anyW) (sym bad) ∙ e) in
+          absurd (true-false (fit p (h .legal) .is-known) (ap known (g .kind)))
 
   -- the test that the code makes
   pub taken-fits : (anyB anyW : Bool) (x y b w : ℕ) → Form (slot anyB anyW) → y ≡ pack p → b ≡ takenB anyB x → w ≡ takenW anyW x

@@ -4,17 +4,18 @@ use mathlib.Core.Path.{_≡_, refl, sym, ap, subst}
 use mathlib.Core.Bool.{Bool, true, not, _&&_}
 use mathlib.Core.List.{List, [], _∷_}
 use native.Mathlib.Omega.{arith}
-use lib.Dec.{eqb, lit<}
+use lib.Dec.{lit<}
 use lib.ListN.{length, getD, take}
 use borrow.Author.Tests.{not-true}
 use Rattle.lists.proofs.Bools.{clash, and-left, and-right, true-false}
+use Rattle.isa.specs.declared.Kind.{Kind}
 use Rattle.isa.specs.declared.Instr.{Instr}
 use Rattle.isa.specs.declared.Technique.{Technique}
-use Rattle.isa.specs.Words.{opcodeOf, fieldsOf}
-use Rattle.isa.specs.Instructions.{instrAt}
+use Rattle.isa.specs.Words.{sameKind, fieldsOf}
+use Rattle.isa.specs.Instructions.{instrAt, isKind}
 use Rattle.guards.specs.declared.Slot.{Slot}
 use Rattle.guards.specs.Sequences.{just, labelTest, rangeTest, jumpGuard, storeGuard, fits, standsAt}
-use Rattle.guards.proofs.Fits.{fits-filled, slot-fits}
+use Rattle.guards.proofs.Fits.{agrees, fits-filled, slot-fits}
 use Rattle.guards.proofs.Replay.{Replay, Fallen, filledFrom, words-filled}
 
 -- what falling through the two tests leaves known, where r0 is v
@@ -91,7 +92,7 @@ store-known memory n b m e f =
 -- no word of a guard is a label
 abbrev pub noLabel : List Slot → Bool
 noLabel [] = true
-noLabel (s ∷ slots) = not (eqb (opcodeOf (fieldsOf (s .instr) .kind)) 0) && noLabel slots
+noLabel (s ∷ slots) = not (isKind Kind.Label (s .instr)) && noLabel slots
 
 pub jump-no-label : (t : Technique) (n id : ℕ) → noLabel (jumpGuard t n id) ≡ true
 jump-no-label Technique.Plain n id = refl
@@ -105,9 +106,10 @@ slot-no-label : (slots : List Slot) → noLabel slots ≡ true → (k : ℕ) →
 unfolding fits
 slot-no-label [] e k h w f = omega arith
 slot-no-label (s ∷ slots) e zero h w f =
-    true-false (and-left (eqb (opcodeOf (fieldsOf (s .instr) .kind)) 0) _ f) (not-true _ (and-left _ _ e))
+    let label : isKind Kind.Label (s .instr) ≡ true = ap (sameKind Kind.Label) (agrees (fieldsOf (s .instr)) (fieldsOf (Instr.Label w)) (s .«any_register») (s .«any_immediate») f .kind) in
+    true-false label (not-true _ (and-left (not (isKind Kind.Label (s .instr))) _ e))
 slot-no-label (s ∷ slots) e (suc k) h w f =
-    slot-no-label slots (and-right (not (eqb (opcodeOf (fieldsOf (s .instr) .kind)) 0)) _ e) k (omega arith) w f
+    slot-no-label slots (and-right (not (isKind Kind.Label (s .instr))) _ e) k (omega arith) w f
 
 pub word-no-label : (memory : List ℕ) (b : ℕ) (slots : List Slot) → standsAt memory b slots ≡ true → noLabel slots ≡ true
     → (k : ℕ) → k < length slots → (w : ℕ) → instrAt memory (b + k) ≡ Instr.Label w → ⊥

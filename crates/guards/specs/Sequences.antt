@@ -1,5 +1,5 @@
 -- Guard sequences as data, and where one stands in memory (document 01, "Conditions"; 000, 4.1 and 5.1).
-use Prim.Native.Nat.{ℕ, zero, suc, _+_, _-_}
+use Prim.Native.Nat.{ℕ, suc, _+_, _-_}
 use mathlib.Core.Bool.{Bool, true, false, _&&_, _||_}
 use mathlib.Core.List.{List, [], _∷_}
 use lib.ListN.{length}
@@ -7,7 +7,7 @@ use lib.Dec.{eqb, leb}
 use Rattle.isa.specs.declared.Instr.{Instr}
 use Rattle.isa.specs.declared.Fields.{Fields}
 use Rattle.isa.specs.declared.Technique.{Technique}
-use Rattle.isa.specs.Words.{opcodeOf, fieldsOf}
+use Rattle.isa.specs.Words.{sameKind, fieldsOf}
 use Rattle.isa.specs.Instructions.{instrAt}
 use Rattle.guards.specs.declared.Slot.{Slot}
 
@@ -49,14 +49,15 @@ jumpGuard Technique.MemoryGuards n id =
 abbrev pub storeGuard : ℕ → ℕ → List Slot
 storeGuard n len = anyRegisterAndImmediate (Instr.Addi 0 0 0) ∷ rangeTest n (len - 1) n (anyRegister (Instr.St 0 0 0) ∷ [])
 
-abbrev fieldsFit : Fields → Fields → Bool → Bool → Bool
-fieldsFit p f anyB anyW =
-    eqb (opcodeOf (p .kind)) (opcodeOf (f .kind))
+-- the fields are the same, but for what is free
+abbrev pub fieldsAgree : Fields → Fields → Bool → Bool → Bool
+fieldsAgree p f anyB anyW =
+    sameKind (p .kind) (f .kind)
     && (eqb (p .a) (f .a) && ((anyB || eqb (p .b) (f .b)) && (eqb (p .c) (f .c) && (anyW || eqb (p .w) (f .w)))))
 
 -- the instruction is the slot's, but for what the slot leaves free
 unfoldable pub fits : Slot → Instr → Bool
-fits s i = fieldsFit (fieldsOf (s .instr)) (fieldsOf i) (s .«any_register») (s .«any_immediate»)
+fits s i = fieldsAgree (fieldsOf (s .instr)) (fieldsOf i) (s .«any_register») (s .«any_immediate»)
 
 -- the sequence stands in memory from address b on
 unfoldable pub standsAt : List ℕ → ℕ → List Slot → Bool

@@ -2,10 +2,10 @@
 use Prim.Native.Nat.{ℕ, _+_, _*_, _/_, _%_, _^_, _<_}
 use mathlib.Core.Path.{_≡_, refl, ap, sym, _∙_}
 use mathlib.Core.Logic.{_⊎_, inl, inr}
-use mathlib.Core.Bool.{Bool, true, false, cond, _&&_}
+use mathlib.Core.Bool.{Bool, true, false, cond}
 use native.Mathlib.Nat.{div-div-eq-div-mul}
 use native.Mathlib.Omega.{arith}
-use lib.Dec.{ltb, eqb}
+use lib.Dec.{eqb}
 use borrow.Author.Tests.{eqb-true, ltb-true, lt-ltb}
 use Rattle.lists.proofs.Bools.{clash, and-left, and-right, and-four}
 use Rattle.isa.specs.declared.Kind.{Kind}
@@ -47,17 +47,17 @@ unfolding decodeOf
 decode-unknown x h = rw h
 
 -- opcodes and kinds
-pub kind-opcode : (k : Kind) → known k ≡ true → kindOf (opcodeOf k) ≡ k
-kind-opcode Kind.Label h = refl
-kind-opcode Kind.Add h = refl
-kind-opcode Kind.Addi h = refl
-kind-opcode Kind.Movi h = refl
-kind-opcode Kind.Bgt h = refl
-kind-opcode Kind.Jd h = refl
-kind-opcode Kind.Jmp h = refl
-kind-opcode Kind.Ld h = refl
-kind-opcode Kind.St h = refl
-kind-opcode Kind.Unknown h = clash (cc)
+pub kind-opcode : (k : Kind) → kindOf (opcodeOf k) ≡ k
+kind-opcode Kind.Label = refl
+kind-opcode Kind.Add = refl
+kind-opcode Kind.Addi = refl
+kind-opcode Kind.Movi = refl
+kind-opcode Kind.Bgt = refl
+kind-opcode Kind.Jd = refl
+kind-opcode Kind.Jmp = refl
+kind-opcode Kind.Ld = refl
+kind-opcode Kind.St = refl
+kind-opcode Kind.Unknown = refl
 
 opcode-small : (k : Kind) → opcodeOf k < 256
 opcode-small k =
@@ -178,7 +178,7 @@ exact-back f h =
       immediate-named (namedBy (f .kind) .w) (f .w) (e .w-fits),
     )
 
-instr-fields : (i : Instr) → instrOf (fieldsOf i) ≡ i
+pub instr-fields : (i : Instr) → instrOf (fieldsOf i) ≡ i
 instr-fields (Instr.Label w) = refl
 instr-fields (Instr.Add d s t) = refl
 instr-fields (Instr.Addi d s w) = refl
@@ -204,7 +204,7 @@ split-pack f h hw =
       part-b o (f .a) (f .b) (f .c) (f .w) ho ha hb hc hw,
       part-c o (f .a) (f .b) (f .c) (f .w) ho ha hb hc hw,
       part-w o (f .a) (f .b) (f .c) (f .w) ho ha hb hc hw,
-      kind-opcode (f .kind) (e .is-known),
+      kind-opcode (f .kind),
     )
 
 pub word-back : (w : ℕ) → (decodeOf w ≡ Instr.Illegal → ⊥) → encodeOf (decodeOf w) ≡ w

@@ -1,7 +1,7 @@
 -- Instruction words (document 01, "Words and memory"): which kind an opcode is, which fields a kind names, and whether a
 -- word is the exact form of its kind.
 use Prim.Native.Nat.{ℕ, _+_, _*_, _/_, _%_, _^_}
-use mathlib.Core.Bool.{Bool, true, false, cond, _&&_}
+use mathlib.Core.Bool.{Bool, true, false, not, cond, _&&_}
 use lib.Dec.{ltb, eqb}
 use Rattle.isa.specs.declared.Kind.{Kind}
 use Rattle.isa.specs.declared.Instr.{Instr}
@@ -34,6 +34,10 @@ opcodeOf Kind.Ld = 7
 opcodeOf Kind.St = 8
 opcodeOf Kind.Unknown = 255
 
+-- the two are one kind: each kind has a number of its own
+abbrev pub sameKind : Kind → Kind → Bool
+sameKind k l = eqb (opcodeOf k) (opcodeOf l)
+
 -- The second question: the table's column "fields".
 abbrev names : Bool → Bool → Bool → Bool → Named
 names a b c w = record { a = a; b = b; c = c; w = w }
@@ -60,16 +64,7 @@ immediateOk true w = true
 immediateOk false w = eqb w 0
 
 abbrev pub known : Kind → Bool
-known Kind.Label = true
-known Kind.Add = true
-known Kind.Addi = true
-known Kind.Movi = true
-known Kind.Bgt = true
-known Kind.Jd = true
-known Kind.Jmp = true
-known Kind.Ld = true
-known Kind.St = true
-known Kind.Unknown = false
+known kind = not (sameKind Kind.Unknown kind)
 
 abbrev pub fieldsFit : Fields → Bool
 fieldsFit f =

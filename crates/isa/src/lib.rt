@@ -159,18 +159,7 @@ fn opcode_of(kind: Kind) -> u8
 fn is_known(kind: Kind) -> bool
     ensures { λ r. ⌜ r ≡ known kind ⌝ }
 {
-    match kind {
-        Kind::Label => true,
-        Kind::Add => true,
-        Kind::Addi => true,
-        Kind::Movi => true,
-        Kind::Bgt => true,
-        Kind::Jd => true,
-        Kind::Jmp => true,
-        Kind::Ld => true,
-        Kind::St => true,
-        Kind::Unknown => false,
-    }
+    255 != opcode_of(kind)
 }
 
 fn names(a: bool, b: bool, c: bool, w: bool) -> Named

@@ -3,7 +3,6 @@
 use Prim.Native.Nat.{ℕ, _/_, _≤_}
 use mathlib.Core.List.{List, [], _∷_, _++_}
 use lib.ListN.{length}
-use Rattle.answers.specs.declared.Refusal.{Refusal}
 use Rattle.answers.specs.declared.Place.{Place}
 use Rattle.answers.specs.declared.Verdict.{Verdict}
 use Rattle.answers.specs.Numbers.{refusalNumber}

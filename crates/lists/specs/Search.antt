@@ -1,5 +1,5 @@
 -- Searches over the numbers below a bound: the first place that a test holds at, whether there is one, and how many.
-use Prim.Native.Nat.{ℕ, zero, suc, _+_}
+use Prim.Native.Nat.{ℕ, zero, suc}
 use mathlib.Core.Bool.{Bool, false, cond, _||_}
 use lib.Dec.{ltb}
 

@@ -1,3 +1,5 @@
 pub mod Steps
+pub mod OneStep
+pub mod Lent
 pub mod Bus
 pub mod Theorems

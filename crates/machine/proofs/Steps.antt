@@ -35,12 +35,11 @@ use Rattle.machine.specs.Steps.{
   intentOf,
   stepped,
   afterOf,
-  memoryAfter,
   stepOf,
   stepMemory,
 }
-use Rattle.machine.specs.Runs.{ran, endingOf, runFrom, runMemoryFrom}
-use Rattle.machine.specs.Inside.{InRange, movedOf, registersAfter, Carried, outcomeOf}
+use Rattle.machine.specs.Runs.{ran, runFrom, runMemoryFrom}
+use Rattle.machine.specs.Inside.{InRange, movedOf, registersAfter, Carried, endingBy}
 
 pub fetch-within : (t : Technique) (len n : ℕ) → n ≤ len → fetchEnd t n len ≤ len
 fetch-within Technique.Plain len n h = h
@@ -115,21 +114,21 @@ after-stopped regs pc (Effect.Stop stop) q h = (cc, refl)
 
 module _ (t : Technique) (n : ℕ) (m regs : List ℕ) (pc : ℕ) (r : Moved) (regs′ m′ : List ℕ)
     (p : memoryShaped (length m) n ≡ true) (k : Carried (intentOf t n m (stateOf regs pc)) regs m r regs′ m′) where
-  pub step-made : (next : ℕ) → r ≡ Moved.To next
+  step-made : (next : ℕ) → r ≡ Moved.To next
       → (stepOf t n m (stateOf regs pc) ≡ stepped (stateOf regs′ next) Outcome.Made) × (stepMemory t n m (stateOf regs pc) ≡ m′)
   unfolding stepOf stepMemory
   step-made next h =
       let e = after-made regs pc (intentOf t n m (stateOf regs pc)) next (sym (k .answer) ∙ h) in
       (rw (p, k .registers) e, rw (p, k .memory))
 
-  pub step-stopped : (q : Stop) → r ≡ Moved.Stopped q
-      → (stepOf t n m (stateOf regs pc) ≡ stepped (stateOf regs pc) (outcomeOf r))
+  step-stopped : (q : Stop) → r ≡ Moved.Stopped q
+      → (stepOf t n m (stateOf regs pc) ≡ stepped (stateOf regs pc) (Outcome.Stopped q))
       × (stepMemory t n m (stateOf regs pc) ≡ m′)
       × (regs′ ≡ regs)
   unfolding stepOf stepMemory
   step-stopped q h =
       let e = after-stopped regs pc (intentOf t n m (stateOf regs pc)) q (sym (k .answer) ∙ h) in
-      (rw (p, h) (e .0), rw (p, k .memory), k .registers ∙ e .1)
+      (rw p (e .0), rw (p, k .memory), k .registers ∙ e .1)
 
   pub turn-made : (limit count next : ℕ) → count < limit → r ≡ Moved.To next
       → (runFrom t n (limit - count) m (stateOf regs pc) count ≡ runFrom t n (limit - (count + 1)) m′ (stateOf regs′ next) (count + 1))
@@ -141,10 +140,10 @@ module _ (t : Technique) (n : ℕ) (m regs : List ℕ) (pc : ℕ) (r : Moved) (r
       (rw (left, s .0, s .1), rw (left, s .0, s .1))
 
   pub turn-stopped : (limit count : ℕ) (q : Stop) → count < limit → r ≡ Moved.Stopped q
-      → (runFrom t n (limit - count) m (stateOf regs pc) count ≡ ran (stateOf regs′ pc) (endingOf (outcomeOf r)) count)
+      → (runFrom t n (limit - count) m (stateOf regs pc) count ≡ ran (stateOf regs′ pc) (endingBy r) count)
       × (runMemoryFrom t n (limit - count) m (stateOf regs pc) ≡ m′)
   unfolding runFrom runMemoryFrom
   turn-stopped limit count q h g =
       let left : limit - count ≡ suc (limit - (count + 1)) = omega arith in
       let s = step-stopped q g in
-      (rw (left, s .0, s .2, g), rw (left, s .0, s .1, g))
+      (rw (left, s .0, s .2, g), rw (left, s .0, s .1))

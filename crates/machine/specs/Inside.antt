@@ -1,12 +1,20 @@
--- What the private functions promise each other: a step over registers and a pc that stand apart.
+-- What the private functions promise each other: a step and a run over registers and a pc that stand apart.
 use Prim.Native.Nat.{ℕ, _<_}
 use mathlib.Core.Path.{_≡_}
+use mathlib.Core.Bool.{cond}
 use mathlib.Core.List.{List}
 use lib.ListN.{set}
+use Rattle.answers.specs.declared.Refusal.{Refusal}
+use Rattle.isa.specs.declared.Technique.{Technique}
 use Rattle.machine.specs.declared.Effect.{Effect}
 use Rattle.machine.specs.declared.Moved.{Moved}
 use Rattle.machine.specs.declared.Outcome.{Outcome}
-use Rattle.machine.specs.Steps.{memoryAfter}
+use Rattle.machine.specs.declared.Ending.{Ending}
+use Rattle.machine.specs.declared.RanTo.{RanTo}
+use Rattle.machine.specs.declared.Written.{Written}
+use Rattle.machine.specs.Steps.{stateOf, memoryAfter}
+use Rattle.machine.specs.Runs.{ran, runOf, runMemory}
+use Rattle.machine.specs.Bus.{writable}
 
 -- the effect writes registers and memory where they are
 abbrev pub InRange : ℕ → Effect → Type 0
@@ -33,6 +41,23 @@ pub record Carried (e : Effect) (regs m : List ℕ) (r : Moved) (regs′ m′ : 
   pub registers : regs′ ≡ registersAfter regs e
   pub memory : m′ ≡ memoryAfter m e
 
-abbrev pub outcomeOf : Moved → Outcome
-outcomeOf (Moved.To next) = Outcome.Made
-outcomeOf (Moved.Stopped stop) = Outcome.Stopped stop
+-- a run over lent registers: with what they hold at exit it answers as `run` does, and leaves that memory
+pub record RanOver (t : Technique) (n limit : ℕ) (regs : List ℕ) (pc : ℕ) (m : List ℕ) (r : RanTo) (regs′ m′ : List ℕ) : Type 0 where
+  pub answer : ran (stateOf regs′ (r .pc)) (r .ending) (r .count) ≡ runOf t n limit m (stateOf regs pc)
+  pub memory : m′ ≡ runMemory t n limit m (stateOf regs pc)
+
+-- what a run answers that ends where the machine moved so
+abbrev pub endingBy : Moved → Ending
+endingBy (Moved.To next) = Ending.Spent
+endingBy (Moved.Stopped stop) = Ending.Stopped stop
+
+-- what a step came to, by the run of limit 1 that made it
+abbrev pub outcomeBy : Ending → Outcome
+outcomeBy Ending.Spent = Outcome.Made
+outcomeBy (Ending.Stopped stop) = Outcome.Stopped stop
+outcomeBy (Ending.Refused refusal) = Outcome.Refused refusal
+
+-- a word put into a register of lent ones: the answer, and what they hold at exit
+pub record PutsRegister (regs : List ℕ) (register word : ℕ) (r : Written) (regs′ : List ℕ) : Type 0 where
+  pub answer : r ≡ cond (writable register) Written.Done (Written.Refused Refusal.NotRegister)
+  pub registers : regs′ ≡ cond (writable register) (set regs register word) regs

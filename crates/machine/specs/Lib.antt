@@ -2,5 +2,6 @@ pub mod Numbers
 pub mod Steps
 pub mod Bus
 pub mod Runs
+pub mod Lent
 pub mod Inside
 pub mod Theorems

@@ -1,7 +1,8 @@
 // The machine: one step by either technique, the bus writes, and the bounded run (document 01, "Steps").
 //
-// The public calls take and return the state by value. Inside, the registers are lent, and a run takes the state apart once:
-// passing the state from function to function costs a copy of 33 words at each call.
+// `step`, `run` and `write_register` take and return the state by value; `run_lent` and `write_register_lent` work on a state
+// that is lent as words, without a copy. Every step is made by `run_over`, over lent registers: its loop is the one place where
+// the compiler puts the whole of a step.
 ghost use mathlib.Core.Path.{_≡_};
 ghost use mathlib.Core.Bool.{true, cond};
 ghost use Prim.Native.Nat.{_+_, _<_, _≤_};
@@ -11,8 +12,9 @@ ghost use Rattle.isa.specs.Theorems.{Registers};
 ghost use Rattle.machine.specs.Numbers.{stopNumber};
 ghost use Rattle.machine.specs.Steps.{fetchEnd, storeStart, nextAllowed, addressOf, branchOf, stateOf, loadOf, storeOf, effectOf, settleOf, intentOf, Steps};
 ghost use Rattle.machine.specs.Bus.{WritesData, WritesRegister};
-ghost use Rattle.machine.specs.Runs.{endingOf, Runs};
-ghost use Rattle.machine.specs.Inside.{InRange, Carried, outcomeOf};
+ghost use Rattle.machine.specs.Runs.{Runs};
+ghost use Rattle.machine.specs.Lent.{RunsLent, WritesRegisterLent};
+ghost use Rattle.machine.specs.Inside.{InRange, Carried, RanOver, endingBy, outcomeBy, PutsRegister};
 use answers::Refusal;
 use isa::Instr;
 use isa::Technique;
@@ -62,6 +64,12 @@ pub struct Ran {
     pub count: u16,
 }
 
+// What a run on a lent state answers.
+pub struct Ended {
+    pub ending: Ending,
+    pub count: u16,
+}
+
 // What a bus write answers.
 pub enum Written {
     Done,
@@ -84,29 +92,17 @@ pub fn stop_number(stop: Stop) -> u8
     }
 }
 
-// One step. The memory is n words of code and then the data.
+// One step: a run with limit 1. The memory is n words of code and then the data.
 pub fn step(technique: Technique, state: State, memory: &mut [u64], n: usize) -> Stepped
     ensures { λ r. ⌜ Steps technique n (now (memory .entry)) state r (now (memory .exit)) ⌝ }
 {
-    if answers::memory_shaped(memory.len(), n) {
-        let mut after = state;
-        let moved = advance(technique, memory, n, &mut after.regs, state.pc);
-        let Moved::To(next) = moved else {
-            let outcome = outcome_of(moved);
-            return Stepped {
-                state: after,
-                outcome: outcome,
-            };
-        };
-        after.pc = next;
-        return Stepped {
-            state: after,
-            outcome: Outcome::Made,
-        };
-    }
+    let ran = run(technique, state, memory, n, 1);
+    let after = ran.state;
+    let ending = ran.ending;
+    let outcome = outcome_by(ending);
     Stepped {
-        state: state,
-        outcome: Outcome::Refused(Refusal::Shape),
+        state: after,
+        outcome: outcome,
     }
 }
 
@@ -114,33 +110,42 @@ pub fn step(technique: Technique, state: State, memory: &mut [u64], n: usize) ->
 pub fn run(technique: Technique, state: State, memory: &mut [u64], n: usize, limit: u16) -> Ran
     ensures { λ r. ⌜ Runs technique n limit (now (memory .entry)) state r (now (memory .exit)) ⌝ }
 {
-    if answers::memory_shaped(memory.len(), n) {
-        let mut regs = state.regs;
-        let mut pc = state.pc;
-        let mut count: u16 = 0;
-        while count < limit {
-            let moved = advance(technique, memory, n, &mut regs, pc);
-            let Moved::To(next) = moved else {
-                let ending = ending_of(moved);
-                return Ran {
-                    state: State { regs: regs, pc: pc },
-                    ending: ending,
-                    count: count,
-                };
-            };
-            pc = next;
-            count += 1;
-        }
-        return Ran {
-            state: State { regs: regs, pc: pc },
-            ending: Ending::Spent,
-            count: count,
+    let mut regs = state.regs;
+    let ran = run_over(technique, &mut regs, state.pc, memory, n, limit);
+    let ending = ran.ending;
+    Ran {
+        state: State {
+            regs: regs,
+            pc: ran.pc,
+        },
+        ending: ending,
+        count: ran.count,
+    }
+}
+
+// The same run on a lent state of 33 words: r0 to r31, then the pc.
+pub fn run_lent(
+    technique: Technique,
+    state: &mut [u64],
+    memory: &mut [u64],
+    n: usize,
+    limit: u16,
+) -> Ended
+    ensures { λ r. ⌜ RunsLent technique n limit (now (state .entry)) (now (memory .entry)) r (now (state .exit)) (now (memory .exit)) ⌝ }
+{
+    if state.len() < 33 {
+        return Ended {
+            ending: Ending::Refused(Refusal::PlaceTooShort),
+            count: 0,
         };
     }
-    Ran {
-        state: state,
-        ending: Ending::Refused(Refusal::Shape),
-        count: 0,
+    let pc = state[32];
+    let ran = run_over(technique, &mut state[..32], pc, memory, n, limit);
+    let ending = ran.ending;
+    state[32] = ran.pc;
+    Ended {
+        ending: ending,
+        count: ran.count,
     }
 }
 
@@ -166,25 +171,41 @@ pub fn write_data(memory: &mut [u64], n: usize, address: u64, word: u64) -> Writ
 pub fn write_register(state: State, register: u64, word: u64) -> RegisterWritten
     ensures { λ r. ⌜ WritesRegister state register word r ⌝ }
 {
+    let mut regs = state.regs;
+    let answer = put_register(&mut regs, register, word);
+    RegisterWritten {
+        state: State {
+            regs: regs,
+            pc: state.pc,
+        },
+        answer: answer,
+    }
+}
+
+// The same bus write on a lent state.
+pub fn write_register_lent(state: &mut [u64], register: u64, word: u64) -> Written
+    ensures { λ r. ⌜ WritesRegisterLent (now (state .entry)) register word r (now (state .exit)) ⌝ }
+{
+    if state.len() < 33 {
+        return Written::Refused(Refusal::PlaceTooShort);
+    }
+    put_register(state, register, word)
+}
+
+// The word into r3 to r31, where the register is one of them.
+fn put_register(regs: &mut [u64], register: u64, word: u64) -> Written
+    requires { ⌜ 32 ≤ length (now regs) ⌝ }
+    ensures { λ r. ⌜ PutsRegister (now (regs .entry)) register word r (now (regs .exit)) ⌝ }
+{
     let i = register as usize;
     if i < 3 {
-        return RegisterWritten {
-            state: state,
-            answer: Written::Refused(Refusal::NotRegister),
-        };
+        return Written::Refused(Refusal::NotRegister);
     }
     if i <= 31 {
-        let mut after = state;
-        after.regs[i] = word;
-        return RegisterWritten {
-            state: after,
-            answer: Written::Done,
-        };
+        regs[i] = word;
+        return Written::Done;
     }
-    RegisterWritten {
-        state: state,
-        answer: Written::Refused(Refusal::NotRegister),
-    }
+    Written::Refused(Refusal::NotRegister)
 }
 
 // What a step is about to do: the next pc, with a register or a word of memory to write, or nothing at all.
@@ -201,23 +222,65 @@ enum Moved {
     Stopped(Stop),
 }
 
-// One step over lent registers.
-fn advance(
+// Where a run stands at its end, and why it ended.
+struct RanTo {
+    pc: u64,
+    ending: Ending,
+    count: u16,
+}
+
+// The run over lent registers.
+fn run_over(
     technique: Technique,
+    regs: &mut [u64],
+    start: u64,
     memory: &mut [u64],
     n: usize,
-    regs: &mut [u64; 32],
-    pc: u64,
-) -> Moved
-    requires { ⌜ memoryShaped (length (now memory)) n ≡ true ⌝ }
+    limit: u16,
+) -> RanTo
+    requires { ⌜ length (now regs) ≡ 32 ⌝ }
+    ensures { λ r. ⌜ RanOver technique n limit (now (regs .entry)) start (now (memory .entry)) r (now (regs .exit)) (now (memory .exit)) ⌝ }
+{
+    if answers::memory_shaped(memory.len(), n) {
+        let mut pc = start;
+        let mut count: u16 = 0;
+        while count < limit {
+            let moved = advance(technique, memory, n, regs, pc);
+            let Moved::To(next) = moved else {
+                let ending = ending_by(moved);
+                return RanTo {
+                    pc: pc,
+                    ending: ending,
+                    count: count,
+                };
+            };
+            pc = next;
+            count += 1;
+        }
+        return RanTo {
+            pc: pc,
+            ending: Ending::Spent,
+            count: count,
+        };
+    }
+    RanTo {
+        pc: start,
+        ending: Ending::Refused(Refusal::Shape),
+        count: 0,
+    }
+}
+
+// One step over lent registers.
+fn advance(technique: Technique, memory: &mut [u64], n: usize, regs: &mut [u64], pc: u64) -> Moved
+    requires { ⌜ (memoryShaped (length (now memory)) n ≡ true) × (length (now regs) ≡ 32) ⌝ }
     ensures { λ r. ⌜ Carried (intentOf technique n (now (memory .entry)) (stateOf (now (regs .entry)) pc)) (now (regs .entry)) (now (memory .entry)) r (now (regs .exit)) (now (memory .exit)) ⌝ }
 {
-    let effect = intent(technique, &memory[..], n, &*regs, pc);
+    let effect = intent(technique, &memory[..], n, &regs[..], pc);
     perform(memory, regs, effect)
 }
 
-fn perform(memory: &mut [u64], regs: &mut [u64; 32], effect: Effect) -> Moved
-    requires { ⌜ InRange (length (now memory)) effect ⌝ }
+fn perform(memory: &mut [u64], regs: &mut [u64], effect: Effect) -> Moved
+    requires { ⌜ InRange (length (now memory)) effect × (length (now regs) ≡ 32) ⌝ }
     ensures { λ r. ⌜ Carried effect (now (regs .entry)) (now (memory .entry)) r (now (regs .exit)) (now (memory .exit)) ⌝ }
 {
     match effect {
@@ -236,8 +299,8 @@ fn perform(memory: &mut [u64], regs: &mut [u64; 32], effect: Effect) -> Moved
     }
 }
 
-fn intent(technique: Technique, memory: &[u64], n: usize, regs: &[u64; 32], pc: u64) -> Effect
-    requires { ⌜ memoryShaped (length (now memory)) n ≡ true ⌝ }
+fn intent(technique: Technique, memory: &[u64], n: usize, regs: &[u64], pc: u64) -> Effect
+    requires { ⌜ (memoryShaped (length (now memory)) n ≡ true) × (length (now regs) ≡ 32) ⌝ }
     ensures { λ r. ⌜ r ≡ intentOf technique n (now (memory .entry)) (stateOf (now (regs .entry)) pc) ⌝ }
 {
     let at = pc as usize;
@@ -253,11 +316,11 @@ fn effect_of(
     technique: Technique,
     memory: &[u64],
     n: usize,
-    regs: &[u64; 32],
+    regs: &[u64],
     pc: u64,
     i: Instr,
 ) -> Effect
-    requires { ⌜ Registers i × (pc < 4096) ⌝ }
+    requires { ⌜ Registers i × (pc < 4096) × (length (now regs) ≡ 32) ⌝ }
     ensures { λ r. ⌜ r ≡ settleOf technique n (effectOf technique n (now (memory .entry)) (stateOf (now (regs .entry)) pc) i) ⌝ }
 {
     let next = pc + 1;
@@ -396,17 +459,8 @@ fn effect_if(allowed: bool, effect: Effect) -> Effect
     }
 }
 
-fn outcome_of(moved: Moved) -> Outcome
-    ensures { λ r. ⌜ r ≡ outcomeOf moved ⌝ }
-{
-    match moved {
-        Moved::To(_) => Outcome::Made,
-        Moved::Stopped(stop) => Outcome::Stopped(stop),
-    }
-}
-
-fn ending_of(moved: Moved) -> Ending
-    ensures { λ r. ⌜ r ≡ endingOf (outcomeOf moved) ⌝ }
+fn ending_by(moved: Moved) -> Ending
+    ensures { λ r. ⌜ r ≡ endingBy moved ⌝ }
 {
     match moved {
         Moved::To(_) => Ending::Spent,
@@ -414,8 +468,19 @@ fn ending_of(moved: Moved) -> Ending
     }
 }
 
-fn reg(regs: &[u64; 32], r: u8) -> u64
-    requires { ⌜ r < 32 ⌝ }
+// What a step came to, by the run of limit 1 that made it.
+fn outcome_by(ending: Ending) -> Outcome
+    ensures { λ r. ⌜ r ≡ outcomeBy ending ⌝ }
+{
+    match ending {
+        Ending::Spent => Outcome::Made,
+        Ending::Stopped(stop) => Outcome::Stopped(stop),
+        Ending::Refused(refusal) => Outcome::Refused(refusal),
+    }
+}
+
+fn reg(regs: &[u64], r: u8) -> u64
+    requires { ⌜ (r < 32) × (length (now regs) ≡ 32) ⌝ }
     ensures { λ v. ⌜ v ≡ getD (now (regs .entry)) r 0 ⌝ }
 {
     let i = r as usize;

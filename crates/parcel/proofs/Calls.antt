@@ -1,6 +1,6 @@
 -- The two calls, one after the other: their contracts say what each leaves, and `RoundTrips` the rest.
 use mathlib.Core.Path.{_≡_, refl, sym, ap, ap₂, _∙_, subst}
-use mathlib.Core.Bool.{Bool, true, false, cond, _&&_, _||_}
+use mathlib.Core.Bool.{Bool, true, false, cond, _||_}
 use mathlib.Core.List.{List, _++_}
 use Prim.Native.Nat.{ℕ, _+_, _-_, _*_, _/_, _%_, _≤_}
 use native.Mathlib.Omega.{arith}
@@ -9,10 +9,11 @@ use lib.ListN.{length, take, drop, length-append, length-drop, take-append-drop}
 use lib.Seq.{take-at, drop-at, length-take-le}
 use borrow.Author.Tests.{le-ltb, le-leb}
 use Rattle.lists.proofs.Bools.{clash}
-use Rattle.answers.specs.Shape.{memoryShaped, edgesShaped}
+use Rattle.answers.specs.Shape.{callShaped}
 use Rattle.answers.specs.declared.Refusal.{Refusal}
 use Rattle.answers.specs.declared.Place.{Place}
-use Rattle.parcel.specs.Bytes.{numbersOf, putOver}
+use Rattle.parcel.specs.Bytes.{numbersOf}
+use Rattle.lists.specs.Places.{putOver}
 use Rattle.parcel.specs.Parcel.{Content, holds, refused, readOf, countsOf, roomFor, memoryIn, edgesIn, afterWrite, parcelOf, writtenOf, WrittenSo}
 use Rattle.parcel.specs.Theorems.{ReadAfterWrite, WriteAfterRead}
 use Rattle.parcel.specs.declared.Read.{Read}
@@ -32,7 +33,7 @@ bytes-written false short k size h = clash (cc)
 pub read-after-write : ReadAfterWrite
 read-after-write m n g s s′ k w m-below g-below m₀ g₀ m₁ g₁ answer r m-room g-room =
     let bytes = parcelOf 2 (take n m) g (drop n m) in
-    let a = bytes-written (memoryShaped (length m) n && edgesShaped (length g)) (ltb (length s) (length bytes)) k (length bytes) (w .answers) in
+    let a = bytes-written (callShaped (length m) n (length g)) (ltb (length s) (length bytes)) k (length bytes) (w .answers) in
     let f = well-shaped (length m) n (length g) (a .0) .memory in
     let parcel : take k s′ ≡ bytes = ap (take k) (w .bytes) ∙ take-at bytes (drop (length bytes) s) k (sym (a .1)) in
     let holds-it : readOf 2 (take k s′) ≡ holds (take n m) g (drop n m) =
@@ -57,7 +58,7 @@ counts-read (holds code edges words) m g h = found (ltb m (length code + length 
 counts-read (refused why) m g h = sym h
 
 -- a memory and edges of the sizes that a parcel has are what every call takes
-takes : (n e d : ℕ) → 1 ≤ n → n ≤ 2048 → e ≤ 2048 → d ≤ 2048 → (memoryShaped (n + d) n && edgesShaped (e * 2)) ≡ true
+takes : (n e d : ℕ) → 1 ≤ n → n ≤ 2048 → e ≤ 2048 → d ≤ 2048 → callShaped (n + d) n (e * 2) ≡ true
 takes n e d a b c f =
     let d-is : n + d - n ≡ d = omega arith in
     let even : e * 2 % 2 ≡ 0 = omega arith in
@@ -79,7 +80,7 @@ write-after-read s m g m′ g′ n e d r below p p′ answer w room =
     let w′ : WrittenSo (code ++ words) n numbers p answer p′ = subst (λ (x : List ℕ). WrittenSo x n numbers p answer p′) memory (subst (λ (x : List ℕ). WrittenSo (take (n + d) m′) n x p answer p′) edges w) in
     let bytes : parcelOf 2 (take n (code ++ words)) numbers (drop n (code ++ words)) ≡ s =
     ap₂ (λ (a b : List ℕ). parcelOf 2 a numbers b) (take-at code words n code-long) (drop-at code words n code-long) ∙ written-read s code numbers words below (t .is) in
-    let shape : (memoryShaped (length (code ++ words)) n && edgesShaped (length numbers)) ≡ true =
-    ap₂ (λ (a b : ℕ). memoryShaped a n && edgesShaped b) long numbers-long ∙ takes n e d (t .some-code) (t .code-limit) (t .edge-limit) (t .data-limit) in
+    let shape : callShaped (length (code ++ words)) n (length numbers) ≡ true =
+    ap₂ (λ (a b : ℕ). callShaped a n b) long numbers-long ∙ takes n e d (t .some-code) (t .code-limit) (t .edge-limit) (t .data-limit) in
     let size : answer ≡ Written.Bytes (length s) = w′ .answers ∙ ap₂ (λ (b : Bool) (x : List ℕ). writtenOf b (length p) x) shape bytes ∙ simp (le-ltb (length p) (length s) room) in
     record { size = size; bytes = w′ .bytes ∙ ap₂ (λ (a : Written) (x : List ℕ). afterWrite a x p) size bytes }

@@ -6,6 +6,5 @@ pub mod Contents
 pub mod Standing
 pub mod ReaderAnswers
 pub mod RoundTrips
-pub mod Post
 pub mod Calls
 pub mod Front

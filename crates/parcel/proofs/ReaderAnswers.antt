@@ -10,7 +10,8 @@ use borrow.Rule.Slice.PartMut.{putMid, postOf}
 use Rattle.lists.proofs.Bools.{clash}
 use Rattle.answers.specs.declared.Refusal.{Refusal}
 use Rattle.answers.specs.declared.Place.{Place}
-use Rattle.parcel.specs.Bytes.{numbersOf, putOver}
+use Rattle.parcel.specs.Bytes.{numbersOf}
+use Rattle.lists.specs.Places.{putOver}
 use Rattle.parcel.specs.Parcel.{Content, holds, refused, readOf, countsOf, roomFor, memoryIn, edgesIn, ReadSo}
 use Rattle.parcel.specs.declared.Read.{Read}
 use Rattle.parcel.proofs.Runs.{length-numbers}

@@ -7,7 +7,8 @@ use native.Mathlib.Numerals.{add-one}
 use native.Mathlib.Nat.{zero-add, add-zero, zero-mul, suc-mul, sub-zero, add-comm}
 use lib.ListN.{length, getD, drop, set, length-set, length-append, drop-of-length-le}
 use lib.Seq.{drop-drop, drop-cons, sets, sets-eq, length-sets}
-use Rattle.parcel.specs.Bytes.{numberOf, bytesOf, numbersOf, allBytesOf, putOver}
+use Rattle.parcel.specs.Bytes.{numberOf, bytesOf, numbersOf, allBytesOf}
+use Rattle.lists.specs.Places.{putOver}
 use Rattle.parcel.proofs.Numbers.{length-bytes, sets-append}
 
 pub length-numbers : (w k : ℕ) (s : List ℕ) → length (numbersOf w k s) ≡ k

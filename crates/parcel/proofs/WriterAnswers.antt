@@ -1,6 +1,6 @@
 -- The writer's answers, case by case: what number 6 says in numbers, and what follows for each answer.
 use mathlib.Core.Path.{_≡_, refl, _∙_}
-use mathlib.Core.Bool.{true, false, _&&_}
+use mathlib.Core.Bool.{true, false}
 use mathlib.Core.List.{List}
 use Prim.Native.Nat.{ℕ, _+_, _-_, _*_, _%_, _≤_, _<_}
 use lib.Dec.{leb, eqb}
@@ -8,11 +8,11 @@ use lib.ListN.{length, take, drop, length-drop}
 use lib.Seq.{length-take-le}
 use borrow.Author.Tests.{leb-true, eqb-true, lt-ltb, le-ltb}
 use Rattle.lists.proofs.Bools.{and-left, and-right}
-use Rattle.answers.specs.Shape.{memoryShaped, edgesShaped}
+use Rattle.answers.specs.Shape.{memoryShaped, edgesShaped, callShaped}
 use Rattle.answers.specs.declared.Refusal.{Refusal}
 use Rattle.answers.specs.declared.Place.{Place}
 use Rattle.answers.proofs.Shape.{Shaped, shaped}
-use Rattle.parcel.specs.Bytes.{putOver}
+use Rattle.lists.specs.Places.{putOver}
 use Rattle.parcel.specs.Parcel.{parcelOf, WrittenSo}
 use Rattle.parcel.specs.declared.Written.{Written}
 use Rattle.parcel.proofs.Sections.{length-parcel}
@@ -23,7 +23,7 @@ pub record WellShaped (len n count : ℕ) : Type 0 where
   pub few : count ≤ 4096
   pub even : count % 2 ≡ 0
 
-pub well-shaped : (len n count : ℕ) → (memoryShaped len n && edgesShaped count) ≡ true → WellShaped len n count
+pub well-shaped : (len n count : ℕ) → callShaped len n count ≡ true → WellShaped len n count
 well-shaped len n count h =
     let e = and-right (memoryShaped len n) (edgesShaped count) h in
     record {
@@ -36,10 +36,10 @@ module _ (m : List ℕ) (n : ℕ) (g s : List ℕ) where
   abbrev size : ℕ
   size = 4 + n * 8 + (4 + length g * 2) + (4 + (length m - n) * 8)
 
-  pub misshapen : (memoryShaped (length m) n && edgesShaped (length g)) ≡ false → WrittenSo m n g s (Written.Refused Refusal.Shape Place.Nowhere) s
+  pub misshapen : callShaped (length m) n (length g) ≡ false → WrittenSo m n g s (Written.Refused Refusal.Shape Place.Nowhere) s
   misshapen h = record { answers = rw h; bytes = refl }
 
-  module _ (h : (memoryShaped (length m) n && edgesShaped (length g)) ≡ true) where
+  module _ (h : callShaped (length m) n (length g) ≡ true) where
     size-is : length (parcelOf 2 (take n m) g (drop n m)) ≡ size
     size-is =
         let f = well-shaped (length m) n (length g) h .memory in

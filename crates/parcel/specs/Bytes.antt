@@ -1,7 +1,7 @@
 -- Numbers in bytes, over the width. Document 01, "Parcel": "Low byte first."
 use Prim.Native.Nat.{ℕ, zero, suc, _+_, _*_, _/_, _%_}
 use mathlib.Core.List.{List, [], _∷_, _++_}
-use lib.ListN.{length, getD, drop}
+use lib.ListN.{getD, drop}
 
 -- the number in the first w bytes of s
 unfoldable pub numberOf : ℕ → List ℕ → ℕ
@@ -22,7 +22,3 @@ numbersOf w (suc k) s = numberOf w s ∷ numbersOf w k (drop w s)
 unfoldable pub allBytesOf : ℕ → List ℕ → List ℕ
 allBytesOf w [] = []
 allBytesOf w (x ∷ xs) = bytesOf w x ++ allBytesOf w xs
-
--- old with its front replaced by new: nothing is touched past what is put there
-abbrev pub putOver : List ℕ → List ℕ → List ℕ
-putOver new old = new ++ drop (length new) old

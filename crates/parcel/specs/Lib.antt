@@ -2,4 +2,3 @@ pub mod Bytes
 pub mod Parcel
 pub mod Inner
 pub mod Theorems
-pub mod Post

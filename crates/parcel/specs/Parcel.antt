@@ -2,14 +2,15 @@
 -- An edge number has w bytes; today w is 2.
 use Prim.Native.Nat.{ℕ, _+_, _*_, _-_, _/_}
 use mathlib.Core.Path.{_≡_}
-use mathlib.Core.Bool.{Bool, cond, _&&_, _||_}
+use mathlib.Core.Bool.{Bool, cond, _||_}
 use mathlib.Core.List.{List, [], _∷_, _++_}
 use lib.ListN.{length, take, drop}
 use lib.Dec.{ltb}
 use Rattle.answers.specs.declared.Refusal.{Refusal}
 use Rattle.answers.specs.declared.Place.{Place}
-use Rattle.answers.specs.Shape.{memoryShaped, edgesShaped}
-use Rattle.parcel.specs.Bytes.{numberOf, bytesOf, numbersOf, allBytesOf, putOver}
+use Rattle.answers.specs.Shape.{callShaped}
+use Rattle.parcel.specs.Bytes.{numberOf, bytesOf, numbersOf, allBytesOf}
+use Rattle.lists.specs.Places.{putOver}
 use Rattle.parcel.specs.declared.reader.Count.{Count}
 use Rattle.parcel.specs.declared.Read.{Read}
 use Rattle.parcel.specs.declared.Written.{Written}
@@ -102,5 +103,5 @@ afterWrite (Written.Refused why place) new old = old
 
 -- what writing the memory m, its first n words code, and the edges g over the bytes s comes to
 pub record WrittenSo (m : List ℕ) (n : ℕ) (g s : List ℕ) (answer : Written) (s′ : List ℕ) : Type 0 where
-  pub answers : answer ≡ writtenOf (memoryShaped (length m) n && edgesShaped (length g)) (length s) (parcelOf 2 (take n m) g (drop n m))
+  pub answers : answer ≡ writtenOf (callShaped (length m) n (length g)) (length s) (parcelOf 2 (take n m) g (drop n m))
   pub bytes : s′ ≡ afterWrite answer (parcelOf 2 (take n m) g (drop n m)) s

@@ -1,11 +1,11 @@
 -- The reader and the writer give back each other: of what bytes hold, and of the two calls, whatever else is in the places lent to them.
 use Prim.Native.Nat.{ℕ, _+_, _*_, _-_, _/_, _^_, _≤_, _<_}
 use mathlib.Core.Path.{_≡_}
-use mathlib.Core.Bool.{true, _&&_}
+use mathlib.Core.Bool.{true}
 use mathlib.Core.List.{List}
 use lib.ListN.{length, getD, take, drop}
-use Rattle.answers.specs.Shape.{memoryShaped, edgesShaped}
-use Rattle.parcel.specs.Bytes.{putOver}
+use Rattle.answers.specs.Shape.{callShaped}
+use Rattle.lists.specs.Places.{putOver}
 use Rattle.parcel.specs.Parcel.{holds, readOf, parcelOf, ReadSo, WrittenSo}
 use Rattle.parcel.specs.declared.Read.{Read}
 use Rattle.parcel.specs.declared.Written.{Written}
@@ -16,7 +16,7 @@ AllBelow b xs = (i : ℕ) → getD xs i 0 < b
 
 -- a memory and a graph that every call takes (number 6)
 pub record WellFormed (m : List ℕ) (n : ℕ) (g : List ℕ) : Type 0 where
-  pub shape : (memoryShaped (length m) n && edgesShaped (length g)) ≡ true
+  pub shape : callShaped (length m) n (length g) ≡ true
   pub words : AllBelow (2 ^ 64) m
   pub numbers : AllBelow (2 ^ 16) g
 

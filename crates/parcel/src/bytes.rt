@@ -3,7 +3,8 @@ ghost use mathlib.Core.Path.{_≡_};
 ghost use Prim.Native.Nat.{_+_, _*_, _≤_, _<_};
 ghost use lib.ListN.{length, drop};
 ghost use lib.Seq.{sets};
-ghost use Rattle.parcel.specs.Bytes.{numberOf, bytesOf, numbersOf, allBytesOf, putOver};
+ghost use Rattle.parcel.specs.Bytes.{numberOf, bytesOf, numbersOf, allBytesOf};
+ghost use Rattle.lists.specs.Places.{putOver};
 
 // The k words of eight bytes from at, into the front of to.
 pub(crate) fn words_into(s: &[u8], at: usize, k: usize, to: &mut [u64])

@@ -56,10 +56,7 @@ pub fn write_parcel(memory: &[u64], n: usize, edges: &[u16], parcel: &mut [u8]) 
 {
     let len = memory.len();
     let numbers = edges.len();
-    if !lists::both(
-        answers::memory_shaped(len, n),
-        answers::edges_shaped(numbers),
-    ) {
+    if !answers::call_shaped(len, n, numbers) {
         return Written::Refused(Refusal::Shape, Place::Nowhere);
     }
     let edges_at = 4 + n * 8;

@@ -75,5 +75,6 @@ table =
       word-4-at-7 = refl;
       runs = run-rows;
       parcel-size = refl;
+      parcel-written = refl;
       parcel-read = refl;
     }

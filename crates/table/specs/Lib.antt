@@ -1,1 +1,2 @@
+pub mod PostParcel
 pub mod Table

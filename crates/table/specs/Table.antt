@@ -11,7 +11,6 @@ use Rattle.isa.specs.declared.Instr.{Instr}
 use Rattle.isa.specs.declared.Technique.{Technique}
 use Rattle.isa.specs.Words.{decodeOf, encodeOf}
 use Rattle.isa.specs.PostProgram.{postCode, postEdges}
-use Rattle.machine.specs.declared.State.{State}
 use Rattle.machine.specs.declared.Ran.{Ran}
 use Rattle.machine.specs.Numbers.{endingNumber}
 use Rattle.machine.specs.Steps.{stateOf, stepOf, stepMemory}
@@ -19,6 +18,7 @@ use Rattle.machine.specs.Bus.{writeRegisterOf}
 use Rattle.machine.specs.Runs.{runOf}
 use Rattle.checker.specs.Verdicts.{verdictOf}
 use Rattle.parcel.specs.Parcel.{holds, readOf, parcelOf}
+use Rattle.table.specs.PostParcel.{postBytes}
 
 -- a verdict as document 01 writes it: accepted, or a number with the place of an edge or an address, or with none
 pub data Paper : Type 0 where
@@ -83,6 +83,7 @@ pub record Table : Type 0 where
   -- "Word 4 aimed at 7: 14 at 6."
   pub word-4-at-7 : verdict Technique.Plain (set postCode 4 (encodeOf (Instr.Bgt 1 2 7))) postEdges ≡ address 14 6
   pub runs : (regs : List ℕ) → length regs ≡ 32 → RunRows regs
-  -- not starred, and proved all the same: "The parcel has 88 bytes."
-  pub parcel-size : length (parcelOf 2 postCode postEdges []) ≡ 88
-  pub parcel-read : readOf 2 (parcelOf 2 postCode postEdges []) ≡ holds postCode postEdges []
+  -- not starred, and proved all the same: "The parcel has 88 bytes.", and these
+  pub parcel-size : length postBytes ≡ 88
+  pub parcel-written : parcelOf 2 postCode postEdges [] ≡ postBytes
+  pub parcel-read : readOf 2 postBytes ≡ holds postCode postEdges []

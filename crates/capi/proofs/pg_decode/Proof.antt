@@ -2,7 +2,7 @@
 use mathlib.Core.Path.{sym, ap, _∙_}
 use denote.Ref.{now}
 use borrow.Author.Tests.{lt-ltb, le-ltb}
-use Rattle.parcel.specs.Bytes.{putOver}
+use Rattle.lists.specs.Places.{putOver}
 use Rattle.capi.proofs.Words.{legal-numbers, illegal-numbers}
 use borrow.Author.Needs.{needs}
 use Rattle.capi.proofs.pg_decode.Statement.{statement}

@@ -1,9 +1,11 @@
--- `capi::pg_run` meets its contract: each return by the tests that led there, on what its callees ensure.
-use borrow.Author.Tests.{lt-ltb, le-ltb}
+-- `capi::pg_run` meets its contract: each return by the tests that led there, and the run on the lent words (`States`).
+use mathlib.Core.Path.{refl}
 use mathlib.Core.List.{[], _∷_}
 use denote.Ref.{now}
-use Rattle.parcel.proofs.Runs.{over-front}
+use borrow.Author.Tests.{lt-ltb, le-ltb}
 use borrow.Author.Needs.{needs}
+use Rattle.parcel.proofs.Runs.{over-front}
+use Rattle.capi.proofs.States.{run-called}
 use Rattle.capi.proofs.pg_run.Statement.{statement}
 use Rattle.capi.proofs.pg_run.Tie as tie
 
@@ -18,23 +20,14 @@ pg-run-spec =
     record { answer = rw (l, k); state-after = rw (l, k); memory-after = rw (l, k); count-after = rw (l, k) })
     (λ c κs. search needs)
     (λ c κs. search needs)
-    (λ c κs. search needs)
-    (λ c κs. search needs)
-    (λ c κs. search needs)
     (λ c. search needs)
-    (λ c κs. search needs)
+    (λ c. search needs)
     (λ c. search needs)
     (λ c. search needs)
     (λ c. search needs)
     (λ c.
-    let q = c .before .before .before .before .before .before .before .before .before .before .before .before .before .before in
-    let l = le-ltb _ _ (q .before .if1 .left) in
-    let k = le-ltb _ _ (q .if2 .left) in
-    let a = q .before .before .before .before .before .args in
-    let f = over-front (c .before .wide16 .result ∷ []) (now (a .count)) (q .if2 .left) in
-    record {
-      answer = rw (l, k) (cc);
-      state-after = rw (l, k) (cc);
-      memory-after = rw (l, k) (cc);
-      count-after = rw (l, k) (cc f);
-    }))
+    let q = c .before .before .before .before in
+    let g = q .before .before .before .before in
+    run-called _ _ _ (q .before .before .before .order-of .ensures) (q .run-number .ensures) (le-ltb _ _ (g .before .if1 .left))
+    (le-ltb _ _ (g .if2 .left)) refl
+    (over-front (_ ∷ []) (now (g .before .before .before .before .before .args .count)) (g .if2 .left))))

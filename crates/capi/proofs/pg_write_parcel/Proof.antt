@@ -19,10 +19,10 @@ pg-write-parcel-spec =
     (λ c κs. search needs)
     (λ c.
     let a = c .before .before .before .before .before .before .before .args in
-    write-short (now (a .memory)) (a .n) (now (a .edges)) (now (a .parcel)) (now (a .count)) Refusal.PlaceTooShort (lt-ltb _ _ (c .before .before .if1 .taken)) (ap (λ x. cond x Refusal.PlaceTooShort Refusal.Shape) (sym (c .before .is-shaped .ensures) ∙ c .if2 .taken)) refl)
+    write-short (now (a .memory)) (a .n) (now (a .edges)) (now (a .parcel)) (now (a .count)) Refusal.PlaceTooShort (lt-ltb _ _ (c .before .before .if1 .taken)) (ap (λ x. cond x Refusal.PlaceTooShort Refusal.Shape) (sym (c .before .call-shaped .ensures) ∙ c .if2 .taken)) refl)
     (λ c.
     let a = c .before .before .before .before .before .before .before .args in
-    write-short (now (a .memory)) (a .n) (now (a .edges)) (now (a .parcel)) (now (a .count)) Refusal.Shape (lt-ltb _ _ (c .before .before .if1 .taken)) (ap (λ x. cond x Refusal.PlaceTooShort Refusal.Shape) (sym (c .before .is-shaped .ensures) ∙ c .if2 .left)) refl)
+    write-short (now (a .memory)) (a .n) (now (a .edges)) (now (a .parcel)) (now (a .count)) Refusal.Shape (lt-ltb _ _ (c .before .before .if1 .taken)) (ap (λ x. cond x Refusal.PlaceTooShort Refusal.Shape) (sym (c .before .call-shaped .ensures) ∙ c .if2 .left)) refl)
     (λ c κs. search needs)
     (λ c. search needs)
     (λ c. search needs)

@@ -9,6 +9,7 @@ advance-spec =
     tie.close
     (tie.spec
     (λ c κs. search needs)
-    (λ c κs. rw (c .before .before .intent .ensures) (intent-in _ _ _ _))
+    (λ c κs. (rw (c .before .before .intent .ensures) (intent-in _ _ _ _), c .before .before .before .before .before .before .before .pre .1))
+    (λ c. search needs)
     (λ c. search needs)
     (λ c. record { answer = cc; registers = cc; memory = cc }))

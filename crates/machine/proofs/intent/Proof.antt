@@ -12,11 +12,11 @@ use Rattle.machine.specs.Steps.{intentOf}
 use Rattle.machine.proofs.intent.Statement.{statement}
 use Rattle.machine.proofs.intent.Tie as tie
 
-inside : (c : tie.After-fetch-end) → (c .before .before .args .pc < c .fetch-end .result)
-    → c .before .before .args .pc < length (now (c .before .before .args .memory))
+inside : (c : tie.After-fetch-end) → (c .before .before .before .args .pc < c .fetch-end .result)
+    → c .before .before .before .args .pc < length (now (c .before .before .before .args .memory))
 inside c h =
-    let a = c .before .before .args in
-    let p = shaped (length (now (a .memory))) (a .n) (c .before .before .pre) in
+    let a = c .before .before .before .args in
+    let p = shaped (length (now (a .memory))) (a .n) (c .before .before .before .pre .0) in
     omega (arith, c .fetch-end .ensures, fetch-within (a .technique) (length (now (a .memory))) (a .n) (p .within))
 
 pub intent-spec : {M : Type 1} → statement M
@@ -29,13 +29,13 @@ intent-spec =
     (λ c. inside (c .before .before) (c .before .if1 .taken))
     (λ c κs. search needs)
     (λ c κs.
-    let q = c .before .before .before .before .before in
+    let q = c .before .before .before .before .before .before in
     let a = q .args in
-    let p = shaped (length (now (a .memory))) (a .n) (q .pre) in
+    let p = shaped (length (now (a .memory))) (a .n) (q .pre .0) in
     let h = inside (c .before .before .before) (c .before .before .if1 .taken) in
     let l = p .within in
     let d = p .data-limit in
     let k = p .code-limit in
-    (rw (c .decode .ensures) (decode-registers (getD (now (a .memory)) (a .pc) 0)), omega arith))
+    (rw (c .decode .ensures) (decode-registers (getD (now (a .memory)) (a .pc) 0)), omega arith, q .pre .1))
     (λ c. rw (lt-ltb _ _ (rw (c .before .before .before .before .fetch-end .ensures) at (c .before .before .before .if1 .taken))) (cc))
     (λ c. rw (le-ltb _ _ (rw (c .before .fetch-end .ensures) at (c .if1 .left)))))

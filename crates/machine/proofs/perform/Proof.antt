@@ -14,12 +14,16 @@ perform-spec =
     (λ c. search needs)
     (λ c. search needs)
     (λ c. search needs)
-    (λ c. rw (c .before .effect2 .given .1) at (c .before .before .before .pre))
+    (λ c.
+    let low = rw (c .before .effect2 .given .1) at (c .before .before .before .pre .0) in
+    let long = c .before .before .before .pre .1 in
+    search needs)
     (λ c. search needs)
-    (λ c. let h = rw (c .before .effect3 .given .1) at (c .before .before .before .pre) in search needs)
-    (λ c. rw (c .before .effect3 .given .1) at (c .before .before .before .pre))
+    (λ c. let h = rw (c .before .effect3 .given .1) at (c .before .before .before .pre .0) in search needs)
+    (λ c. rw (c .before .effect3 .given .1) at (c .before .before .before .pre .0))
     (λ c. search needs)
     (λ c. let e = c .before .effect .given .1 in record { answer = rw e; registers = rw e; memory = rw e })
+    (λ c. search needs)
     (λ c. let e = c .before .effect2 .given .1 in record { answer = rw e; registers = rw e; memory = rw e })
     (λ c. search needs)
     (λ c. let e = c .before .effect3 .given .1 in record { answer = rw e; registers = rw e; memory = rw e })

@@ -1,14 +1,14 @@
 -- `parcel::write_parcel` meets its contract: each return by the tests that led there (`WriterAnswers`), and the three sections are the parcel (`Sections`).
 use mathlib.Core.List.{List}
-use mathlib.Core.Bool.{Bool, true, _&&_}
-use mathlib.Core.Path.{_≡_, refl, sym, ap, ap₂, _∙_}
+use mathlib.Core.Bool.{true}
+use mathlib.Core.Path.{_≡_, refl, sym, ap, _∙_}
 use Prim.Native.Nat.{ℕ, _-_, _+_, _*_}
 use native.Mathlib.Omega.{arith}
 use lib.ListN.{length, take, drop, length-take, length-drop}
 use lib.Seq.{take-all, sets}
 use borrow.Author.Needs.{needs}
 use borrow.Author.Tests.{not-true, not-false}
-use Rattle.answers.specs.Shape.{memoryShaped, edgesShaped}
+use Rattle.answers.specs.Shape.{callShaped}
 use Rattle.parcel.specs.Parcel.{sectionOf}
 use Rattle.parcel.proofs.Sections.{parcel-put}
 use Rattle.parcel.proofs.WriterAnswers.{WellShaped, well-shaped, misshapen, too-long, written}
@@ -16,18 +16,16 @@ use Rattle.parcel.proofs.write_parcel.Statement.{statement}
 use Rattle.parcel.proofs.write_parcel.Tie as tie
 
 -- number 6 let the call through
-known : (c : tie.Else1) → let a = c .before .before .before .before .before .before .before .args in (memoryShaped (length (a .memory .now)) (a .n) && edgesShaped (length (a .edges .now))) ≡ true
-known c =
-    sym (c .before .both .ensures ∙ ap₂ (λ (x y : Bool). x && y) (c .before .before .before .memory-shaped .ensures) (c .before .before .edges-shaped .ensures))
-    ∙ not-false _ (c .if1 .left)
+known : (c : tie.Else1) → let a = c .before .before .before .before .before .args in callShaped (length (a .memory .now)) (a .n) (length (a .edges .now)) ≡ true
+known c = sym (c .before .call-shaped .ensures) ∙ not-false _ (c .if1 .left)
 
-shape : (c : tie.Else1) → let a = c .before .before .before .before .before .before .before .args in WellShaped (length (a .memory .now)) (a .n) (length (a .edges .now))
+shape : (c : tie.Else1) → let a = c .before .before .before .before .before .args in WellShaped (length (a .memory .now)) (a .n) (length (a .edges .now))
 shape c = well-shaped _ _ _ (known c)
 
 returns-3 : tie.Need-returns-3
 returns-3 c =
     let t = c .before .before .before .before .before .before .before .before .before .before .before .before .before .before .before in
-    let a = t .before .before .before .before .before .before .before .args in
+    let a = t .before .before .before .before .before .args in
     let m = a .memory .now in
     let h = shape t in
     let data-at = 4 + a .n * 8 + (4 + length (a .edges .now) * 2) in
@@ -41,13 +39,12 @@ returns-3 c =
 pub write-parcel-spec : {M : Type 1} → statement M
 write-parcel-spec =
     tie.close
-    (tie.spec (λ c κs. search needs) (λ c κs. search needs) (λ c κs. search needs)
+    (tie.spec (λ c κs. search needs)
     (λ c.
-    let a = c .before .before .before .before .before .before .before .args in
-    misshapen (a .memory .now) (a .n) (a .edges .now) (a .parcel .now)
-    (sym (c .before .both .ensures ∙ ap₂ (λ (x y : Bool). x && y) (c .before .before .before .memory-shaped .ensures) (c .before .before .edges-shaped .ensures)) ∙ not-true _ (c .if1 .taken)))
+    let a = c .before .before .before .before .before .args in
+    misshapen (a .memory .now) (a .n) (a .edges .now) (a .parcel .now) (sym (c .before .call-shaped .ensures) ∙ not-true _ (c .if1 .taken)))
     (λ c. let h = shape c in omega arith) (λ c. let h = shape c in omega arith) (λ c. search needs) (λ c. search needs) (λ c. let h = shape c in omega arith) (λ c. let h = shape c in omega arith) (λ c. search needs) (λ c. search needs) (λ c. let h = shape c in omega arith)
-    (λ c. let a = c .before .before .before .before .before .before .before .before .args in too-long (a .memory .now) (a .n) (a .edges .now) (a .parcel .now) (known (c .before)) (c .if2 .taken))
+    (λ c. let a = c .before .before .before .before .before .before .args in too-long (a .memory .now) (a .n) (a .edges .now) (a .parcel .now) (known (c .before)) (c .if2 .taken))
     (λ c. let h = shape (c .before .before .before) in simp length-take (omega arith))
     (λ c κs. let h = shape (c .before .before .before) in simp length-take (omega arith, omega arith))
     (λ c κs. let h = shape (c .before .before .before .before .before .before .before) in omega arith)

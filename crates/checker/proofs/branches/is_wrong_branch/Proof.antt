@@ -1,10 +1,8 @@
 -- `branches::is_wrong_branch` meets its contract: a branch holds its target, and no other word has one.
-use Rattle.isa.specs.declared.Kind.{Kind}
 use mathlib.Core.Path.{sym, ap, _∙_}
 use borrow.Author.Needs.{needs}
 use lib.ListN.{getD}
-use Rattle.lists.proofs.Bools.{or-left, or-right}
-use Rattle.isa.specs.Instructions.{instrAt, isKind}
+use Rattle.isa.specs.Instructions.{instrAt}
 use Rattle.isa.proofs.ByKind.{no-branch, branch-low}
 use Rattle.guards.specs.Patterns.{targetBadIfAny}
 use Rattle.checker.proofs.branches.is_wrong_branch.Statement.{statement}
@@ -26,7 +24,5 @@ is-wrong-branch-spec =
     ∙ c .before .if1 .taken))))
     (λ c.
     let entry = c .before .before .before .before in
-    sym (ap (targetBadIfAny (entry .args .technique) (entry .args .memory .now) (entry .args .n)) (let h = sym
-    (c .before .is-branch .ensures) ∙ c .if1 .left in no-branch (instrAt (entry .args .memory .now)
-    (entry .args .a)) (or-left _ (isKind Kind.Jd (instrAt (entry .args .memory .now) (entry .args .a))) h) (or-right
-    (isKind Kind.Bgt (instrAt (entry .args .memory .now) (entry .args .a))) _ h)))))
+    sym (ap (targetBadIfAny (entry .args .technique) (entry .args .memory .now) (entry .args .n)) (no-branch (instrAt
+    (entry .args .memory .now) (entry .args .a)) (sym (c .before .is-branch .ensures) ∙ c .if1 .left)))))

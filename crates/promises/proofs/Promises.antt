@@ -1,0 +1,33 @@
+-- Every promise is kept: each field is the proof that its own crate has.
+use Rattle.isa.proofs.Words.{round-trips}
+use Rattle.machine.proofs.Theorems.{unmade-changes-nothing, step-then-run}
+use Rattle.checker.proofs.Equivalence.{accepted-exactly}
+use Rattle.integrity.proofs.Demand.{demand-3}
+use Rattle.integrity.proofs.Traversal.{run-is-its-steps}
+use Rattle.integrity.proofs.Shown.{programs-accepted, calls-made}
+use Rattle.parcel.proofs.RoundTrips.{read-written, written-read}
+use Rattle.parcel.proofs.Calls.{read-after-write, write-after-read}
+use Rattle.line.proofs.Theorems.{prefix-suffices}
+use Rattle.table.proofs.Table.{table}
+use Rattle.capi.proofs.Unchanged.{refused-changes-nothing}
+use Rattle.promises.specs.Promises.{Promises}
+
+pub kept : Promises
+kept =
+    record {
+      words = round-trips;
+      parcel-read-back = read-written;
+      parcel-written-back = written-read;
+      read-after-write = read-after-write;
+      write-after-read = write-after-read;
+      prefix-suffices = prefix-suffices;
+      accepted-exactly = accepted-exactly;
+      step-then-run = step-then-run;
+      run-is-its-steps = run-is-its-steps;
+      unmade-changes-nothing = unmade-changes-nothing;
+      refused-changes-nothing = refused-changes-nothing;
+      demand-3 = demand-3;
+      programs-accepted = programs-accepted;
+      calls-made = calls-made;
+      rows = table;
+    }

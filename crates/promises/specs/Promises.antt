@@ -1,0 +1,48 @@
+-- The whole promise on one page: what is proved of the definitions that the contracts cite. Each field is a statement of another
+-- crate, and nothing is stated here anew; `proofs/Promises.antt` has the term that holds them all.
+--
+-- That every call ends, does nothing undefined and answers what its definition says is each function's own contract, in `src/`:
+-- `decode` is `decodeOf`, `check` is `verdictOf`, `step` is `stepOf`, `run` is `runOf`, `read_parcel` is `readOf`, and so on.
+use Prim.Native.Nat.{ℕ}
+use mathlib.Core.List.{List}
+use Rattle.isa.specs.declared.Technique.{Technique}
+use Rattle.isa.specs.Theorems.{RoundTrips}
+use Rattle.machine.specs.declared.State.{State}
+use Rattle.machine.specs.Theorems.{UnmadeChangesNothing, StepThenRun}
+use Rattle.checker.specs.Theorems.{AcceptedExactly}
+use Rattle.integrity.specs.Demand.{Demand3, RunIsItsSteps}
+use Rattle.integrity.specs.Examples.{ProgramsAccepted, CallsMade}
+use Rattle.parcel.specs.Theorems.{ReadWritten, WrittenRead, ReadAfterWrite, WriteAfterRead}
+use Rattle.line.specs.Theorems.{PrefixSuffices}
+use Rattle.table.specs.Table.{Table}
+use Rattle.capi.specs.Theorems.{RefusedChangesNothing}
+
+pub record Promises : Type 0 where
+  -- Instruction words, written and read, give back each other.
+  pub words : RoundTrips
+  -- Parcels, written and read, give back each other: what their bytes hold,
+  pub parcel-read-back : ReadWritten
+  pub parcel-written-back : WrittenRead
+  -- and the two calls, whatever else stands in the places lent to them.
+  pub read-after-write : ReadAfterWrite
+  pub write-after-read : WriteAfterRead
+  -- The first 40,973 bytes of an input decide what `verdict` prints.
+  pub prefix-suffices : PrefixSuffices
+  -- Code is accepted exactly where it meets the published conditions, plain or with memory guards.
+  pub accepted-exactly : AcceptedExactly
+  -- A run of one step more is a step and then the run;
+  pub step-then-run : (t : Technique) (n : ℕ) (memory : List ℕ) (s : State) (k : ℕ) → StepThenRun t n memory s k
+  -- its count, its end and what it leaves are those of its steps one by one.
+  pub run-is-its-steps : RunIsItsSteps
+  -- A step that is not made changes nothing,
+  pub unmade-changes-nothing : (t : Technique) (n : ℕ) (memory : List ℕ) (s : State) → UnmadeChangesNothing t n memory s
+  -- and a refused call from C or Rust changes nothing that was lent.
+  pub refused-changes-nothing : RefusedChangesNothing
+  -- For every list of steps, runs and bus writes over an accepted program: each step made is an edge of the claimed graph, the code
+  -- words stay as checked, and with memory guards a step that cannot be made stands at an illegal word or at a load outside memory.
+  pub demand-3 : Demand3
+  -- That is about something: programs that are accepted, and calls over them that are made.
+  pub programs-accepted : ProgramsAccepted
+  pub calls-made : (registers : ℕ → ℕ) (word : ℕ) → CallsMade registers word
+  -- The starred rows of document 01.
+  pub rows : Table
