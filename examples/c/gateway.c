@@ -1,7 +1,7 @@
 /* A gateway's day: read a parcel, check it, run it with bus writes in between, and say what happened.
  *
  *     cc -std=c11 -Iinclude examples/c/gateway.c target/staticlib/libcapi.a -o gateway
- *     ./gateway            the post program of document 01
+ *     ./gateway            the post program of docs/REFERENCE.md
  *     ./gateway FILE       a parcel of your own */
 #include <stdio.h>
 #include <stdlib.h>

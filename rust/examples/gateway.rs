@@ -1,6 +1,6 @@
 //! A gateway's day: read a parcel, check it, run it with bus writes in between, and say what happened.
 //!
-//!     cargo run --release --example gateway            the post program of document 01
+//!     cargo run --release --example gateway            the post program of docs/REFERENCE.md
 //!     cargo run --release --example gateway FILE       a parcel of your own
 use post_guard::{encode, run, write_data, Ending, Instruction::*, Program, State, Technique, Verdict};
 

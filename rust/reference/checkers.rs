@@ -140,6 +140,7 @@ pub fn check(technique: Technique, memory: &[u64], n: usize, edges: &[u16]) -> A
 }
 
 /// The same with sets and maps, as one would write it without care for time: sets are compared once for each class.
+#[inline(never)]
 pub fn check_with_sets(technique: Technique, memory: &[u64], n: usize, edges: &[u16]) -> Answer {
     if !shaped(memory.len(), n) || edges.len() % 2 != 0 || edges.len() > 4096 {
         return (6, 0, 0);
@@ -222,6 +223,7 @@ pub fn check_with_sets(technique: Technique, memory: &[u64], n: usize, edges: &[
 }
 
 /// The same with flat arrays of n numbers, in time that follows words plus edges.
+#[inline(never)]
 pub fn check_flat(technique: Technique, memory: &[u64], n: usize, edges: &[u16]) -> Answer {
     if !shaped(memory.len(), n) || edges.len() % 2 != 0 || edges.len() > 4096 {
         return (6, 0, 0);

@@ -1,4 +1,5 @@
 //! Document 01 in plain, safe Rust, written apart from the Rattle sources: what tests and benchmarks hold the library against.
+//! A call that the benchmark times is kept out of line, as the library's calls are.
 #![allow(dead_code)]
 
 pub mod checkers;
@@ -151,6 +152,7 @@ fn advance(technique: Technique, state: &mut State, memory: &mut [u64], n: usize
 }
 
 /// 0, the stop, or 6
+#[inline(never)]
 pub fn step(technique: Technique, state: &mut State, memory: &mut [u64], n: usize) -> u32 {
     if !shaped(memory.len(), n) {
         return 6;
@@ -159,6 +161,7 @@ pub fn step(technique: Technique, state: &mut State, memory: &mut [u64], n: usiz
 }
 
 /// 0 where it is spent, the stop, or 6; and the count
+#[inline(never)]
 pub fn run(technique: Technique, state: &mut State, memory: &mut [u64], n: usize, limit: u16) -> (u32, u16) {
     if !shaped(memory.len(), n) {
         return (6, 0);
@@ -172,6 +175,7 @@ pub fn run(technique: Technique, state: &mut State, memory: &mut [u64], n: usize
     (0, limit)
 }
 
+#[inline(never)]
 pub fn write_data(memory: &mut [u64], n: usize, address: u64, word: u64) -> u32 {
     if !shaped(memory.len(), n) {
         return 6;
@@ -183,6 +187,7 @@ pub fn write_data(memory: &mut [u64], n: usize, address: u64, word: u64) -> u32 
     0
 }
 
+#[inline(never)]
 pub fn write_register(state: &mut State, register: u64, word: u64) -> u32 {
     if !(3..=31).contains(&register) {
         return 17;
@@ -192,6 +197,7 @@ pub fn write_register(state: &mut State, register: u64, word: u64) -> u32 {
 }
 
 /// the counts of code words, edges and data words, or the number
+#[inline(never)]
 pub fn read_parcel(parcel: &[u8], memory: &mut [u64], edges: &mut [u16]) -> Result<(usize, usize, usize), u32> {
     fn section<'a>(rest: &mut &'a [u8], size: usize, low: u32, high: u32) -> Result<&'a [u8], u32> {
         let all: &'a [u8] = rest;
@@ -236,6 +242,7 @@ pub fn read_parcel(parcel: &[u8], memory: &mut [u64], edges: &mut [u16]) -> Resu
 }
 
 /// the number of bytes, or the number
+#[inline(never)]
 pub fn write_parcel(memory: &[u64], n: usize, edges: &[u16], parcel: &mut [u8]) -> Result<usize, u32> {
     if !shaped(memory.len(), n) || edges.len() % 2 != 0 || edges.len() > 4096 {
         return Err(6);

@@ -65,18 +65,22 @@ mod library {
 pub mod slices {
     use super::library;
 
+    #[inline]
     pub fn decode(word: u64, fields: &mut [u32]) -> u32 {
         unsafe { library::pg_decode(word, fields.as_mut_ptr(), fields.len()) }
     }
 
+    #[inline]
     pub fn encode(opcode: u8, a: u8, b: u8, c: u8, w: u32) -> u64 {
         unsafe { library::pg_encode(opcode, a, b, c, w) }
     }
 
+    #[inline]
     pub fn step(technique: u8, state: &mut [u64], memory: &mut [u64], n: usize) -> u32 {
         unsafe { library::pg_step(technique, state.as_mut_ptr(), state.len(), memory.as_mut_ptr(), memory.len(), n) }
     }
 
+    #[inline]
     pub fn run(
         technique: u8,
         state: &mut [u64],
@@ -100,14 +104,17 @@ pub mod slices {
         }
     }
 
+    #[inline]
     pub fn write_data(memory: &mut [u64], n: usize, address: u64, word: u64) -> u32 {
         unsafe { library::pg_write_data(memory.as_mut_ptr(), memory.len(), n, address, word) }
     }
 
+    #[inline]
     pub fn write_register(state: &mut [u64], register: u64, word: u64) -> u32 {
         unsafe { library::pg_write_register(state.as_mut_ptr(), state.len(), register, word) }
     }
 
+    #[inline]
     pub fn check(technique: u8, memory: &[u64], n: usize, edges: &[u16], place: &mut [u64]) -> u32 {
         unsafe {
             library::pg_check(
@@ -123,6 +130,7 @@ pub mod slices {
         }
     }
 
+    #[inline]
     pub fn read_parcel(parcel: &[u8], memory: &mut [u64], edges: &mut [u16], counts: &mut [u64]) -> u32 {
         unsafe {
             library::pg_read_parcel(
@@ -138,6 +146,7 @@ pub mod slices {
         }
     }
 
+    #[inline]
     pub fn write_parcel(memory: &[u64], n: usize, edges: &[u16], parcel: &mut [u8], count: &mut [u64]) -> u32 {
         unsafe {
             library::pg_write_parcel(
@@ -158,18 +167,22 @@ pub mod slices {
 pub use slices::{check, decode, encode, read_parcel, write_data, write_parcel};
 
 /// A state as 33 words. `State` is `repr(C)`: 32 registers and then the pc, with nothing between.
+#[inline]
 fn words(state: &mut State) -> &mut [u64] {
     unsafe { std::slice::from_raw_parts_mut(state as *mut State as *mut u64, 33) }
 }
 
+#[inline]
 pub fn step(technique: u8, state: &mut State, memory: &mut [u64], n: usize) -> u32 {
     slices::step(technique, words(state), memory, n)
 }
 
+#[inline]
 pub fn run(technique: u8, state: &mut State, memory: &mut [u64], n: usize, limit: u16, count: &mut [u64]) -> u32 {
     slices::run(technique, words(state), memory, n, limit, count)
 }
 
+#[inline]
 pub fn write_register(state: &mut State, register: u64, word: u64) -> u32 {
     slices::write_register(words(state), register, word)
 }

@@ -30,8 +30,11 @@
 //! assert_eq!(Program::from_parcel(&parcel), Ok(program));
 //! ```
 //!
+//! The functions are thin, and `#[inline]`: a call costs what the library's call costs.
+//!
 //! No function here panics, and none has a precondition: any numbers may be passed. The proved contract of each call is in
-//! `crates/capi/src/lib.rt`; the only unsafe code, in `calls.rs`, hands slices over to it.
+//! `crates/capi/src/lib.rt`; the only unsafe code, in `calls.rs`, hands slices over to it. Instructions, steps, what a check
+//! asks, the parcel and every number are explained in docs/REFERENCE.md of the repository.
 
 mod calls;
 
@@ -47,6 +50,7 @@ pub enum Technique {
 }
 
 impl Technique {
+    #[inline]
     fn number(self) -> u8 {
         match self {
             Technique::Plain => 0,
@@ -77,6 +81,7 @@ pub enum Instruction {
 /// assert_eq!(decode(0x0302_0000_0000_0007), Instruction::Movi { rd: 2, w: 7 });
 /// assert_eq!(decode(0x0320_0000_0000_0007), Instruction::Illegal); // register 32
 /// ```
+#[inline]
 pub fn decode(word: u64) -> Instruction {
     let mut fields = [0u32; 5];
     calls::decode(word, &mut fields);
@@ -103,6 +108,7 @@ pub fn decode(word: u64) -> Instruction {
 /// assert_eq!(encode(Instruction::Label { w: 7 }), 7);
 /// assert_eq!(encode(Instruction::Jmp { rs: 32 }), u64::MAX);
 /// ```
+#[inline]
 pub fn encode(instruction: Instruction) -> u64 {
     let (opcode, a, b, c, w) = match instruction {
         Instruction::Label { w } => (0, 0, 0, 0, w),
@@ -119,7 +125,7 @@ pub fn encode(instruction: Instruction) -> u64 {
     calls::encode(opcode, a, b, c, w)
 }
 
-/// Why a call is turned away, by document 01's number.
+/// Why a call is turned away, by the number of docs/REFERENCE.md, which says what to do about it.
 #[derive(Clone, Copy, PartialEq, Eq, Hash, Debug)]
 pub enum Refusal {
     CountMissing = 1,
@@ -142,11 +148,13 @@ pub enum Refusal {
 }
 
 impl Refusal {
-    /// Document 01's number, 1 to 17.
+    /// The number of docs/REFERENCE.md, 1 to 17.
+    #[inline]
     pub fn number(self) -> u32 {
         self as u32
     }
 
+    #[inline]
     fn of(number: u32) -> Refusal {
         match number {
             1 => Refusal::CountMissing,
@@ -197,7 +205,7 @@ impl fmt::Display for Refusal {
 
 impl std::error::Error for Refusal {}
 
-/// Why a step cannot be made, by document 01's number.
+/// Why a step cannot be made, by the number of docs/REFERENCE.md.
 #[derive(Clone, Copy, PartialEq, Eq, Hash, Debug)]
 pub enum Stop {
     /// The pc is outside code, or, with memory guards, outside memory.
@@ -211,11 +219,13 @@ pub enum Stop {
 }
 
 impl Stop {
-    /// Document 01's number, 1 to 4.
+    /// The number of docs/REFERENCE.md, 1 to 4.
+    #[inline]
     pub fn number(self) -> u32 {
         self as u32
     }
 
+    #[inline]
     fn of(number: u32) -> Option<Stop> {
         match number {
             1 => Some(Stop::Fetch),
@@ -237,6 +247,7 @@ pub struct State {
 
 impl State {
     /// A fresh state: pc 0, and the registers as they are given.
+    #[inline]
     pub fn fresh(registers: [u64; 32]) -> State {
         State { registers, pc: 0 }
     }
@@ -250,6 +261,7 @@ impl State {
     /// assert_eq!(state.registers[5], 9);
     /// assert_eq!(state.write_register(2, 9), Err(Refusal::NotRegister));
     /// ```
+    #[inline]
     pub fn write_register(&mut self, register: u64, word: u64) -> Result<(), Refusal> {
         done(calls::write_register(self, register, word))
     }
@@ -263,6 +275,7 @@ pub enum Step {
 }
 
 /// Makes one step over n words of code and the data after them. A stop or a refusal changes nothing.
+#[inline]
 pub fn step(technique: Technique, state: &mut State, memory: &mut [u64], n: usize) -> Result<Step, Refusal> {
     match calls::step(technique.number(), state, memory, n) {
         0 => Ok(Step::Made),
@@ -290,6 +303,7 @@ pub struct Ran {
 }
 
 /// Makes steps until one cannot be made or the limit is reached. A refusal changes nothing.
+#[inline]
 pub fn run(technique: Technique, state: &mut State, memory: &mut [u64], n: usize, limit: u16) -> Result<Ran, Refusal> {
     let mut count = [0u64; 1];
     let ending = match calls::run(technique.number(), state, memory, n, limit, &mut count) {
@@ -311,6 +325,7 @@ pub fn run(technique: Technique, state: &mut State, memory: &mut [u64], n: usize
 /// assert_eq!(memory, [u64::MAX, 1, 7]);
 /// assert_eq!(write_data(&mut memory, 1, 0, 7), Err(Refusal::NotData));
 /// ```
+#[inline]
 pub fn write_data(memory: &mut [u64], n: usize, address: u64, word: u64) -> Result<(), Refusal> {
     done(calls::write_data(memory, n, address, word))
 }
@@ -353,6 +368,7 @@ impl fmt::Display for Verdict {
 ///     Verdict::Refused(Refusal::LastWordLegal, Some(Place::Address(0)))
 /// );
 /// ```
+#[inline]
 pub fn check(technique: Technique, memory: &[u64], n: usize, edges: &[u16]) -> Verdict {
     let mut place = [0u64; 2];
     match calls::check(technique.number(), memory, n, edges, &mut place) {
@@ -378,6 +394,7 @@ pub struct Counts {
 
 /// Reads a parcel: code, and data directly after it, into the memory, and edge numbers into the edges. Nothing past them is
 /// touched, and a refusal changes nothing.
+#[inline]
 pub fn read_parcel(parcel: &[u8], memory: &mut [u64], edges: &mut [u16]) -> Result<Counts, Refusal> {
     let mut counts = [0u64; 3];
     done(calls::read_parcel(parcel, memory, edges, &mut counts))?;
@@ -387,6 +404,7 @@ pub fn read_parcel(parcel: &[u8], memory: &mut [u64], edges: &mut [u16]) -> Resu
 
 /// Writes a program as a parcel, and gives the number of its bytes. Nothing past them is touched, and a refusal changes
 /// nothing.
+#[inline]
 pub fn write_parcel(memory: &[u64], n: usize, edges: &[u16], parcel: &mut [u8]) -> Result<usize, Refusal> {
     let mut count = [0u64; 1];
     done(calls::write_parcel(memory, n, edges, parcel, &mut count))?;
@@ -428,6 +446,7 @@ impl Program {
     }
 }
 
+#[inline]
 fn done(number: u32) -> Result<(), Refusal> {
     match number {
         0 => Ok(()),

@@ -215,6 +215,80 @@ fn registers_at_both_ends() {
     }
 }
 
+/// Steps, runs and register writes with a lent state of every length: below 33 words each call answers 5, and from 33 on only
+/// the first 33 words count. Each instruction is made, stops, and is refused for its shape.
+#[test]
+fn states_of_every_length() {
+    use reference::Op;
+    let mut r = Random::new(17);
+    let ops = [
+        Op::Label(7),
+        Op::Add(31, 4, 5),
+        Op::Addi(0, 31, 1),
+        Op::Movi(30, 9),
+        Op::Bgt(4, 31, 1),
+        Op::Jd(0),
+        Op::Jmp(31),
+        Op::Ld(31, 4, 0),
+        Op::St(4, 31, 0),
+        Op::Illegal,
+    ];
+    for state_len in 0..=36 {
+        for op in ops {
+            for technique in TECHNIQUES {
+                for (n, pc) in [(6, 3), (4, 3), (6, 6), (6, 9), (6, u64::MAX), (0, 3), (10, 3), (2049, 3)] {
+                    let mut memory = [7u64; 9];
+                    memory[3] = reference::encode(op);
+                    let mut both = Both::new(registers(&mut r, 9), pc, &memory, state_len);
+                    let number = number_for(&mut r, technique);
+                    both.step(technique, number, n);
+                    both.compare("a step with this state");
+                    for (limit, count_len) in [(0, 1), (1, 2), (5, 3), (5, 0), (65_535, 1)] {
+                        both.run(technique, number, n, limit, count_len);
+                        both.compare("a run with this state");
+                    }
+                    for register in [0, 2, 3, 31, 32, 33, u64::MAX] {
+                        both.write_register(register, r.word());
+                        both.compare("a register write with this state");
+                    }
+                }
+            }
+        }
+    }
+}
+
+/// each instruction with each register in each of its fields: r31 stands beside the pc
+#[test]
+fn every_register_in_every_field() {
+    use reference::Op;
+    let mut r = Random::new(18);
+    for x in 0..32 {
+        for y in 0..32 {
+            let z = r.below(32) as u8;
+            let ops = [
+                Op::Add(x, y, z),
+                Op::Add(z, x, y),
+                Op::Addi(x, y, 5),
+                Op::Movi(x, 5),
+                Op::Bgt(x, y, 5),
+                Op::Jmp(x),
+                Op::Ld(x, y, 1),
+                Op::St(x, y, 1),
+            ];
+            for op in ops {
+                for technique in TECHNIQUES {
+                    let mut memory = [7u64; 9];
+                    memory[3] = reference::encode(op);
+                    let mut both = Both::new(registers(&mut r, 9), 3, &memory, 33);
+                    let number = number_for(&mut r, technique);
+                    both.step(technique, number, 6);
+                    both.compare("a step with these registers");
+                }
+            }
+        }
+    }
+}
+
 /// lists of calls over accepted programs: each call goes on from what the one before left
 #[test]
 fn lists_of_calls() {

@@ -64,6 +64,33 @@ fn fields_encode_as_the_reference_says() {
     }
 }
 
+/// the wrapper's fields by name, as the reference has them by place
+fn named(instruction: post_guard::Instruction) -> reference::Op {
+    use post_guard::Instruction as I;
+    use reference::Op;
+    match instruction {
+        I::Label { w } => Op::Label(w),
+        I::Add { rd, rs, rt } => Op::Add(rd, rs, rt),
+        I::Addi { rd, rs, w } => Op::Addi(rd, rs, w),
+        I::Movi { rd, w } => Op::Movi(rd, w),
+        I::Bgt { rs, rt, w } => Op::Bgt(rs, rt, w),
+        I::Jd { w } => Op::Jd(w),
+        I::Jmp { rs } => Op::Jmp(rs),
+        I::Ld { rd, rs, w } => Op::Ld(rd, rs, w),
+        I::St { rd, rs, w } => Op::St(rd, rs, w),
+        I::Illegal => Op::Illegal,
+    }
+}
+
+#[test]
+fn the_wrapper_names_fields_as_the_reference_does() {
+    let mut r = Random::new(4);
+    for _ in 0..300_000 {
+        let word = r.instruction_word();
+        assert_eq!(named(post_guard::decode(word)), reference::decode(word), "{word:#x}");
+    }
+}
+
 #[test]
 fn legal_words_come_back() {
     let mut r = Random::new(3);

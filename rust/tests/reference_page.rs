@@ -1,0 +1,184 @@
+//! docs/REFERENCE.md against what it tells of: the programs shown are the examples and are accepted as the page says, the table of
+//! numbers has every number under the header's name, and the definitions that the page names are there. Every example gets the
+//! verdicts that were worked out by hand.
+use post_guard::{Place, Program, Refusal::*, Technique, Verdict};
+use std::fs;
+use std::path::{Path, PathBuf};
+
+fn repository() -> PathBuf {
+    Path::new(env!("CARGO_MANIFEST_DIR")).join("..")
+}
+
+fn bytes_of(path: &str) -> Vec<u8> {
+    fs::read(repository().join(path)).unwrap_or_else(|error| panic!("{path}: {error}"))
+}
+
+fn text_of(path: &str) -> String {
+    String::from_utf8(bytes_of(path)).unwrap()
+}
+
+fn page() -> String {
+    text_of("docs/REFERENCE.md")
+}
+
+/// A fenced block that a line `<!-- FILE -->` marks: the file, the last line of text before the marker, and the block.
+struct Shown {
+    file: String,
+    before: String,
+    block: String,
+}
+
+fn shown() -> Vec<Shown> {
+    let page = page();
+    let mut lines = page.lines();
+    let mut before = "";
+    let mut blocks = Vec::new();
+    while let Some(line) = lines.next() {
+        if let Some(file) = line.strip_prefix("<!-- ").and_then(|rest| rest.strip_suffix(" -->")) {
+            assert_eq!(lines.next(), Some("```"), "a block follows directly on the marker of {file}");
+            let block = lines.by_ref().take_while(|&line| line != "```").map(|line| format!("{line}\n")).collect();
+            blocks.push(Shown { file: file.to_string(), before: before.to_string(), block });
+        } else if !line.is_empty() {
+            before = line;
+        }
+    }
+    blocks
+}
+
+fn program(name: &str) -> Program {
+    Program::from_parcel(&bytes_of(&format!("examples/{name}.parcel"))).unwrap_or_else(|refusal| panic!("{name}: {refusal}"))
+}
+
+#[test]
+fn programs_shown_are_the_examples_and_accepted() {
+    let mut techniques = Vec::new();
+    for Shown { file, before, block } in shown() {
+        let Some(name) = file.strip_prefix("examples/").and_then(|rest| rest.strip_suffix(".txt")) else { continue };
+        assert_eq!(block, text_of(&file), "{file}");
+        let technique = if before.ends_with("Accepted, plain:") {
+            Technique::Plain
+        } else if before.ends_with("Accepted, with memory guards:") {
+            Technique::MemoryGuards
+        } else {
+            panic!("the page does not say how {file} is accepted: {before}");
+        };
+        assert_eq!(program(name).check(technique), Verdict::Accepted, "{file}");
+        techniques.push(technique);
+    }
+    assert!(techniques.contains(&Technique::Plain) && techniques.contains(&Technique::MemoryGuards), "{techniques:?}");
+}
+
+#[test]
+fn bytes_shown_are_the_parcels() {
+    let mut count = 0;
+    for Shown { file, block, .. } in shown().into_iter().filter(|shown| shown.file.ends_with(".parcel")) {
+        let mut bytes = Vec::new();
+        for line in block.lines() {
+            let mut words = line.split_whitespace();
+            assert_eq!(words.next(), Some(bytes.len().to_string().as_str()), "{file}: {line}");
+            let hex = words.take_while(|word| word.len() == 2).map_while(|word| u8::from_str_radix(word, 16).ok());
+            bytes.extend(hex);
+        }
+        assert_eq!(bytes, bytes_of(&file), "{file}");
+        count += 1;
+    }
+    assert!(count > 0, "the page shows no parcel");
+}
+
+#[test]
+fn examples_get_the_verdicts_worked_out_by_hand() {
+    let edge = |refusal, place| Verdict::Refused(refusal, Some(Place::Edge(place)));
+    let address = |refusal, place| Verdict::Refused(refusal, Some(Place::Address(place)));
+    // the name, the verdict plain, the verdict with memory guards
+    let expected = [
+        // jd 3 leads into the guard at 1 to 6; with memory guards a guard of ten words does not fit at 0 to 6
+        ("branch-into-guard", address(BranchTarget, 0), address(JumpUnguarded, 6)),
+        // with memory guards the st at 14 has no guard
+        ("clipping", Verdict::Accepted, address(StoreUnguarded, 14)),
+        // the label at 9 is no destination; 12 comes before 13 and 14
+        ("clipping-skipped", address(LabelCondition, 9), address(LabelCondition, 9)),
+        // the target 9 is n, the first address of data
+        ("label-in-data", edge(TargetOutsideCode, 0), edge(TargetOutsideCode, 0)),
+        // plain asks for addi r0, rs, 0 five words before the jmp at 15, where a bgt is
+        ("memory-guards", address(JumpUnguarded, 15), Verdict::Accepted),
+        // a plain guard is too short with memory guards
+        ("post", Verdict::Accepted, address(JumpUnguarded, 6)),
+        // the word at 6 is illegal, so the only edge starts at no jmp
+        ("register-32", edge(EdgeFromNoJump, 0), edge(EdgeFromNoJump, 0)),
+        // {13, 15} of the jmp at 6 and {13} of the jmp at 12 share 13 and differ
+        ("shared-label", address(TargetSetsOverlap, 6), address(TargetSetsOverlap, 6)),
+        // jmp r5 is not jmp r0
+        ("target-read-again", address(JumpUnguarded, 6), address(JumpUnguarded, 6)),
+    ];
+    for (name, plain, guarded) in expected {
+        let program = program(name);
+        assert_eq!(program.check(Technique::Plain), plain, "{name}, plain");
+        assert_eq!(program.check(Technique::MemoryGuards), guarded, "{name}, with memory guards");
+    }
+    for ending in ["parcel", "txt"] {
+        let mut names: Vec<String> = fs::read_dir(repository().join("examples"))
+            .unwrap()
+            .map(|entry| entry.unwrap().path())
+            .filter(|path| path.extension().is_some_and(|e| e == ending))
+            .map(|path| path.file_stem().unwrap().to_str().unwrap().to_string())
+            .collect();
+        names.sort();
+        assert_eq!(names, expected.map(|(name, _, _)| name), "the examples with the ending {ending}");
+    }
+}
+
+/// the first two cells of each row that begins with a number, of the tables in a section
+fn rows(heading: &str) -> Vec<(u32, String)> {
+    let page = page();
+    let section = page.lines().skip_while(|line| *line != heading).skip(1).take_while(|line| !line.starts_with("## "));
+    section
+        .filter_map(|line| {
+            let mut cells = line.strip_prefix("| ")?.split(" | ");
+            Some((cells.next()?.parse().ok()?, cells.next()?.trim_matches('`').to_string()))
+        })
+        .collect()
+}
+
+#[test]
+fn every_number_has_a_row_under_its_name() {
+    let header = text_of("include/post_guard.h");
+    for (heading, last) in [("## Numbers", 17), ("## Steps and stops", 4)] {
+        let rows = rows(heading);
+        assert_eq!(rows.iter().map(|row| row.0).collect::<Vec<_>>(), (1..=last).collect::<Vec<_>>(), "{heading}");
+        for (number, name) in rows {
+            let defined = header.lines().any(|line| {
+                line.split_whitespace().take(3).eq(["#define", name.as_str(), number.to_string().as_str()])
+            });
+            assert!(defined, "the header does not define {name} as {number}");
+        }
+    }
+}
+
+#[test]
+fn definitions_named_are_there() {
+    let page = page();
+    let mut count = 0;
+    for section in page.split("\n## ").skip(1) {
+        let title = section.lines().next().unwrap();
+        let told: Vec<&str> = section.lines().filter(|line| line.starts_with("Defined in ")).collect();
+        assert!(!told.is_empty() || title == "Where the rules come from", "'{title}' names no definition");
+        for line in told {
+            let mut file = ("", String::new());
+            for name in line.split('`').skip(1).step_by(2) {
+                if name.contains('/') {
+                    file = (name, text_of(name));
+                } else {
+                    assert!(defines(&file.1, name), "{} does not define {name}", file.0);
+                    count += 1;
+                }
+            }
+        }
+    }
+    assert!(count > 0);
+}
+
+/// a line of the text begins with the name, after the words that a definition may begin with
+fn defines(text: &str, name: &str) -> bool {
+    let opening = ["abbrev", "unfoldable", "pub", "record", "data", "enum"];
+    text.lines().any(|line| line.split_whitespace().find(|word| !opening.contains(word)) == Some(name))
+}
