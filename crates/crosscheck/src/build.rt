@@ -1,55 +1,79 @@
 // A random guarded program of either technique. First a plan says what stands at each address, then the words and the edges are
 // written by it.
+use crate::edges::edge_at;
+use crate::edges::put_edge;
+use crate::edges::swap;
 use crate::random;
+use crate::random::Drawn;
+use crate::random::below;
+use crate::sequences;
 use crate::words;
+use crate::words::word;
 
-// What a plan says of an address. A number from LABEL_OF, JUMP_OF or AIM_OF on goes with a target set.
-const STRAIGHT: u16 = 0;
+// What a plan says of an address. A number from LABEL_OF or JUMP_OF on goes with a target set; AIMED more than a store or a jump
+// is the word before its guard, which aims a register.
+const STRAIGHT: usize = 0;
 
-const BRANCH: u16 = 1;
+const BRANCH: usize = 1;
 
-const LAST: u16 = 2;
+const LAST: usize = 2;
 
-const INSIDE: u16 = 3;
+const INSIDE: usize = 3;
 
-const STORE: u16 = 4;
+const STORE: usize = 4;
 
-const DATA_AIM: u16 = 5;
+const AIMED: usize = 16;
 
-const LABEL_OF: u16 = 16;
+const DATA_AIM: usize = 20;
 
-const JUMP_OF: u16 = 32;
+const LABEL_OF: usize = 32;
 
-const AIM_OF: u16 = 48;
+const JUMP_OF: usize = 48;
 
-// How much of the lent places a program takes: code words, memory words, edge numbers.
-pub(crate) struct Sizes {
+const AIM_OF: usize = 64;
+
+// How much of the lent places a code takes: code words, memory words, edge numbers; and the seed of what is drawn next.
+pub(crate) struct Code {
     pub(crate) n: usize,
     pub(crate) len: usize,
     pub(crate) numbers: usize,
+    pub(crate) seed: u64,
+}
+
+impl Code {
+    pub(crate) fn seeded(self, seed: u64) -> Code {
+        Code {
+            n: self.n,
+            len: self.len,
+            numbers: self.numbers,
+            seed: seed,
+        }
+    }
 }
 
 pub(crate) fn program(
-    seed: &mut u64,
+    seed: u64,
     guards: bool,
     memory: &mut [u64; 4096],
     edges: &mut [u16; 4200],
-) -> Sizes {
-    let mut plan = [0u16; 512];
-    let sets = random::below(seed, 5);
-    let extra = random::below(seed, 24);
-    let n = planned(seed, guards, sets, extra, &mut plan);
-    let data = random::below(seed, 20);
-    let len = std::num::wrapping_add_usize(n, data);
-    write_words(seed, guards, &plan, n, len, memory);
-    let numbers = write_edges(&plan, n, edges);
-    shuffle(seed, edges, numbers / 2);
-    let repeats = random::below(seed, 3);
-    let all = repeat_edges(seed, edges, numbers, repeats);
-    Sizes {
+) -> Code {
+    let mut plan = [0usize; 512];
+    let sets = below(seed, 5);
+    let extra = below(sets.seed, 24);
+    let end = planned(extra.seed, guards, sets.x, extra.x, &mut plan);
+    let n = end.x;
+    let data = below(end.seed, 20);
+    let len = sum(n, data.x);
+    let written = write_words(data.seed, guards, &plan, n, len, memory);
+    let numbers = write_edges(guards, &plan, n, edges);
+    let shuffled = shuffle(written, edges, numbers / 2);
+    let repeats = below(shuffled, 3);
+    let all = repeat_edges(repeats.seed, edges, numbers, repeats.x);
+    Code {
         n: n,
         len: len,
-        numbers: all,
+        numbers: all.x,
+        seed: all.seed,
     }
 }
 
@@ -57,280 +81,265 @@ pub(crate) fn sum(a: usize, b: usize) -> usize {
     std::num::wrapping_add_usize(a, b)
 }
 
-pub(crate) fn less_one(a: usize) -> usize {
-    std::num::wrapping_sub_usize(a, 1)
+pub(crate) fn less(a: usize, b: usize) -> usize {
+    std::num::wrapping_sub_usize(a, b)
 }
 
-pub(crate) fn put_word(memory: &mut [u64; 4096], address: usize, word: u64) {
+pub(crate) fn put_word(memory: &mut [u64; 4096], address: usize, word: usize) {
     if address < 4096 {
-        memory[address] = word;
+        memory[address] = word as u64;
     }
 }
 
-pub(crate) fn put_number(edges: &mut [u16; 4200], i: usize, x: u16) {
-    if i < 4200 {
-        edges[i] = x;
-    }
-}
-
-fn put_plan(plan: &mut [u16; 512], address: usize, item: u16) {
+fn put_plan(plan: &mut [usize; 512], address: usize, item: usize) {
     if address < 512 {
         plan[address] = item;
     }
 }
 
-pub(crate) fn put_edge(edges: &mut [u16; 4200], i: usize, from: u16, to: u16) {
-    put_number(edges, i, from);
-    put_number(edges, sum(i, 1), to);
-}
-
-pub(crate) fn number(edges: &[u16], i: usize) -> u16 {
-    if i < edges.len() { edges[i] } else { 0 }
-}
-
-pub(crate) fn short(x: usize) -> u16 {
-    (x % 65536) as u16
+fn planned_at(plan: &[usize; 512], address: usize) -> usize {
+    if address < 512 { plan[address] } else { 0 }
 }
 
 // One jump and one label for each set, and so many other items, in mixed order; then the last word. The plan's length.
-fn planned(
-    seed: &mut u64,
-    guards: bool,
-    sets: usize,
-    extra: usize,
-    plan: &mut [u16; 512],
-) -> usize {
+fn planned(seed: u64, guards: bool, sets: usize, extra: usize, plan: &mut [usize; 512]) -> Drawn {
     let items = sets % 8 * 2 + extra % 64;
-    let start = random::below(seed, sum(items, 1));
+    let start = below(seed, sum(items, 1));
+    let mut next = start.seed;
     let mut at = 0;
     let mut k = 0;
     while k < items {
-        let item = mixed(k, start, items);
-        let kind = item_of(item, sets, seed);
-        at = planned_item(guards, kind, at, plan);
+        let item = item_of(next, mixed(k, start.x, items), sets);
+        at = planned_item(guards, item.x, at, plan);
+        next = item.seed;
         k += 1;
     }
     put_plan(plan, at, LAST);
-    sum(at, 1)
+    Drawn {
+        x: sum(at, 1),
+        seed: next,
+    }
 }
 
 // The k-th item: every one comes up once.
 fn mixed(k: usize, start: usize, items: usize) -> usize {
-    if items == 0 {
-        return 0;
-    }
-    if items % 7 == 0 {
-        return sum(k, start) % items;
-    }
-    sum(k % 64 * 7, start) % items
+    let strides = if items % 7 == 0 { k } else { k % 64 * 7 };
+    random::rest(sum(strides, start), items)
 }
 
 // The first items are the sets' jumps and labels, in turn.
-fn item_of(item: usize, sets: usize, seed: &mut u64) -> u16 {
-    let set = short(item / 2 % 8);
+fn item_of(seed: u64, item: usize, sets: usize) -> Drawn {
     if item / 2 < sets {
-        if item % 2 == 0 {
-            std::num::wrapping_add_u16(JUMP_OF, set)
-        } else {
-            std::num::wrapping_add_u16(LABEL_OF, set)
+        let kind = if item % 2 == 0 { JUMP_OF } else { LABEL_OF };
+        Drawn {
+            x: sum(kind, item / 2 % 8),
+            seed: seed,
         }
     } else {
         other_item(seed, sets)
     }
 }
 
-fn other_item(seed: &mut u64, sets: usize) -> u16 {
-    let set = short(random::below(seed, sets));
-    match random::below(seed, 12) {
-        0 | 1 => {
-            if sets == 0 {
-                STRAIGHT
-            } else {
-                std::num::wrapping_add_u16(LABEL_OF, set)
-            }
-        }
-        2 => {
-            if sets == 0 {
-                STRAIGHT
-            } else {
-                std::num::wrapping_add_u16(JUMP_OF, set)
-            }
-        }
-        3 | 4 => STORE,
-        5 | 6 => BRANCH,
+fn other_item(seed: u64, sets: usize) -> Drawn {
+    let set = below(seed, sets);
+    let drawn = below(set.seed, 12);
+    let kind = drawn.x;
+    let item = match kind {
+        0 => in_set(LABEL_OF, set.x, sets),
+        1 => in_set(LABEL_OF, set.x, sets),
+        2 => in_set(JUMP_OF, set.x, sets),
+        3 => STORE,
+        4 => STORE,
+        5 => BRANCH,
+        6 => BRANCH,
         _ => STRAIGHT,
+    };
+    Drawn {
+        x: item,
+        seed: drawn.seed,
     }
+}
+
+// Where there is no set, there is neither a label nor a jump.
+fn in_set(kind: usize, set: usize, sets: usize) -> usize {
+    if sets == 0 { STRAIGHT } else { sum(kind, set) }
 }
 
 // Sets the plan for one item from an address on; the address after it.
-fn planned_item(guards: bool, item: u16, at: usize, plan: &mut [u16; 512]) -> usize {
-    if item >= JUMP_OF {
-        if item < AIM_OF {
-            put_plan(plan, at, std::num::wrapping_add_u16(item, 16));
-            put_plan(plan, sum(at, 1), item);
-            return inside(plan, sum(at, 2), if guards { 9 } else { 5 });
-        }
-    }
-    if item == STORE {
-        if guards {
-            put_plan(plan, at, DATA_AIM);
-            put_plan(plan, sum(at, 1), STORE);
-            return inside(plan, sum(at, 2), 5);
-        }
-    }
-    put_plan(plan, at, item);
-    sum(at, 1)
-}
-
-// So many words of a guard after its first.
-fn inside(plan: &mut [u16; 512], at: usize, count: usize) -> usize {
+fn planned_item(guards: bool, item: usize, at: usize, plan: &mut [usize; 512]) -> usize {
+    let count = words_of(guards, item);
     let mut k = 0;
     while k < count {
-        put_plan(plan, sum(at, k), INSIDE);
+        put_plan(plan, sum(at, k), planned_word(item, count, k));
         k += 1;
     }
     sum(at, count)
 }
 
+// How many words an item takes: one, or where it has a guard, the word before it and the guard.
+fn words_of(guards: bool, item: usize) -> usize {
+    let after = if is_jump(item) {
+        sequences::words_after_first(guards, words::JMP)
+    } else if item == STORE {
+        sequences::words_after_first(guards, words::ST)
+    } else {
+        0
+    };
+    if after == 0 { 1 } else { sum(after, 2) }
+}
+
+fn is_jump(item: usize) -> bool {
+    (item >= JUMP_OF) & (item < AIM_OF)
+}
+
+fn planned_word(item: usize, count: usize, k: usize) -> usize {
+    if count == 1 {
+        return item;
+    }
+    match k {
+        0 => sum(item, AIMED),
+        1 => item,
+        _ => INSIDE,
+    }
+}
+
 fn write_words(
-    seed: &mut u64,
+    seed: u64,
     guards: bool,
-    plan: &[u16; 512],
+    plan: &[usize; 512],
     n: usize,
     len: usize,
     memory: &mut [u64; 4096],
-) {
+) -> u64 {
+    let mut before = 0;
+    let mut next = seed;
     let mut at = 0;
     while at < len {
-        if at < n {
-            write_item(seed, guards, plan, n, len, at, memory);
+        let drawn = if at < n {
+            word_for(next, guards, plan, n, len, at, before)
         } else {
-            put_word(memory, at, random::word(seed, len));
-        }
+            random::word(next, len)
+        };
+        put_word(memory, at, drawn.x);
+        before = drawn.x;
+        next = drawn.seed;
         at += 1;
     }
+    next
 }
 
-fn write_item(
-    seed: &mut u64,
+// The word at an address of code, after the word before it.
+fn word_for(
+    seed: u64,
     guards: bool,
-    plan: &[u16; 512],
+    plan: &[usize; 512],
     n: usize,
     len: usize,
     at: usize,
-    memory: &mut [u64; 4096],
-) {
-    match number(plan, at) {
-        STRAIGHT => put_word(memory, at, straight(seed, guards, len)),
-        BRANCH => put_word(memory, at, branch(seed, guards, plan, n)),
-        LAST => put_word(memory, at, illegal(seed)),
-        INSIDE => {}
-        STORE => write_store(seed, guards, n, len, at, memory),
-        DATA_AIM => put_word(memory, at, aim_at_data(seed, n, len)),
-        _ => write_of_set(seed, guards, plan, n, at, memory),
+    before: usize,
+) -> Drawn {
+    let item = planned_at(plan, at);
+    match item {
+        STRAIGHT => straight(seed, guards, len),
+        BRANCH => branch(seed, guards, plan, n),
+        LAST => once_in_four(seed, word(9, 0, 0, 0, 7), words::ONES),
+        INSIDE => inside(seed, guards, plan, n, len, at),
+        STORE => store(seed, guards, len, before),
+        DATA_AIM => aim_at_data(seed, n, len),
+        _ => of_set(seed, plan, n, item, before),
     }
 }
 
-fn write_of_set(
-    seed: &mut u64,
-    guards: bool,
-    plan: &[u16; 512],
-    n: usize,
-    at: usize,
-    memory: &mut [u64; 4096],
-) {
-    let item = number(plan, at);
-    let set = item % 16;
-    let id = lowest_label(plan, n, set);
-    if item >= AIM_OF {
-        put_word(memory, at, aim_at_label(seed, plan, n, set));
-    } else if item >= JUMP_OF {
-        write_jump(guards, n, id, at, memory);
-    } else {
-        put_word(memory, at, id as u64);
+fn once_in_four(seed: u64, one: usize, other: usize) -> Drawn {
+    let drawn = below(seed, 4);
+    let x = if drawn.x == 0 { one } else { other };
+    Drawn {
+        x: x,
+        seed: drawn.seed,
     }
-}
-
-fn aim_at_data(seed: &mut u64, n: usize, len: usize) -> u64 {
-    let data = std::num::wrapping_sub_usize(len, n);
-    let address = sum(n, random::below(seed, data));
-    movi(random::register(seed), address)
-}
-
-fn aim_at_label(seed: &mut u64, plan: &[u16; 512], n: usize, set: u16) -> u64 {
-    let target = some_label(seed, plan, n, set);
-    movi(random::register(seed), target)
-}
-
-fn illegal(seed: &mut u64) -> u64 {
-    if random::once_in(seed, 4) {
-        words::word(9, 0, 0, 0, 7)
-    } else {
-        0xffff_ffff_ffff_ffff
-    }
-}
-
-fn movi(rd: u8, w: usize) -> u64 {
-    words::word(words::MOVI, rd, 0, 0, words::low32(w))
-}
-
-fn bgt(rs: u8, rt: u8, w: usize) -> u64 {
-    words::word(words::BGT, rs, rt, 0, words::low32(w))
 }
 
 // A word of no guard that goes on to the next.
-fn straight(seed: &mut u64, guards: bool, len: usize) -> u64 {
-    let a = random::register(seed);
-    let b = random::register(seed);
-    let c = random::register(seed);
-    let w = words::low32(random::below(seed, len));
-    match random::below(seed, 16) {
-        0 | 1 | 2 => words::word(words::ADD, a, b, c, 0),
-        3 | 4 | 5 => words::word(words::ADDI, a, b, 0, w),
-        6 => words::word(words::LD, a, b, 0, w),
-        7 => {
-            if guards {
-                words::word(words::LD, a, b, 0, w)
-            } else {
-                words::word(words::ST, a, b, 0, w)
-            }
-        }
-        8 => illegal_at_times(seed),
-        _ => words::word(words::MOVI, a, 0, 0, w),
-    }
-}
-
-fn illegal_at_times(seed: &mut u64) -> u64 {
-    if random::once_in(seed, 4) {
-        words::word(words::ADD, 32, 1, 1, 0)
+fn straight(seed: u64, guards: bool, len: usize) -> Drawn {
+    let a = below(seed, 32);
+    let b = below(a.seed, 32);
+    let c = below(b.seed, 32);
+    let w = below(c.seed, len);
+    let drawn = below(w.seed, 16);
+    if drawn.x == 8 {
+        once_in_four(
+            drawn.seed,
+            word(words::ADD, 32, 1, 1, 0),
+            word(words::ADDI, 4, 4, 0, 1),
+        )
     } else {
-        words::word(words::ADDI, 4, 4, 0, 1)
+        let op = straight_kind(drawn.x, guards);
+        Drawn {
+            x: formed(op, a.x, b.x, c.x, w.x),
+            seed: drawn.seed,
+        }
     }
 }
 
-fn store(seed: &mut u64, len: usize) -> u64 {
-    let a = random::register(seed);
-    let b = random::register(seed);
-    words::word(words::ST, a, b, 0, words::low32(random::below(seed, len)))
+fn straight_kind(x: usize, guards: bool) -> usize {
+    match x {
+        0 => words::ADD,
+        1 => words::ADD,
+        2 => words::ADD,
+        3 => words::ADDI,
+        4 => words::ADDI,
+        5 => words::ADDI,
+        6 => words::LD,
+        7 => { if guards { words::LD } else { words::ST } }
+        _ => words::MOVI,
+    }
+}
+
+// The word of a kind, of those fields that it names.
+fn formed(op: usize, a: usize, b: usize, c: usize, w: usize) -> usize {
+    match op {
+        words::ADD => word(op, a, b, c, 0),
+        words::MOVI => word(op, a, 0, 0, w),
+        _ => word(op, a, b, 0, w),
+    }
 }
 
 // A branch to a place that is no word of a guard but its first; plain, at times outside code.
-fn branch(seed: &mut u64, guards: bool, plan: &[u16; 512], n: usize) -> u64 {
-    let target = safe_place(plan, random::below(seed, n));
-    let out = !guards && random::once_in(seed, 12);
-    let w = if out { sum(n, target) } else { target };
-    if random::once_in(seed, 2) {
-        words::word(words::JD, 0, 0, 0, words::low32(w))
+fn branch(seed: u64, guards: bool, plan: &[usize; 512], n: usize) -> Drawn {
+    let place = below(seed, n);
+    let target = safe_place(plan, place.x);
+    let out = below(place.seed, 12);
+    if guards {
+        branch_to(place.seed, target)
+    } else if out.x == 0 {
+        branch_to(out.seed, sum(n, target))
     } else {
-        bgt(random::register(seed), random::register(seed), w)
+        branch_to(out.seed, target)
+    }
+}
+
+fn branch_to(seed: u64, target: usize) -> Drawn {
+    let half = below(seed, 2);
+    let rs = below(half.seed, 32);
+    let rt = below(rs.seed, 32);
+    if half.x == 0 {
+        Drawn {
+            x: word(words::JD, 0, 0, 0, target),
+            seed: half.seed,
+        }
+    } else {
+        Drawn {
+            x: word(words::BGT, rs.x, rt.x, 0, target),
+            seed: rt.seed,
+        }
     }
 }
 
 // The nearest address at or below that is not inside a guard.
-fn safe_place(plan: &[u16; 512], from: usize) -> usize {
+fn safe_place(plan: &[usize; 512], from: usize) -> usize {
     let mut at = from;
     while at > 0 {
-        if number(plan, at) != INSIDE {
+        if planned_at(plan, at) != INSIDE {
             return at;
         }
         at -= 1;
@@ -338,64 +347,91 @@ fn safe_place(plan: &[u16; 512], from: usize) -> usize {
     at
 }
 
-// The guard's first words copy the register that the word before aimed.
-fn write_jump(guards: bool, n: usize, id: usize, at: usize, memory: &mut [u64; 4096]) {
-    let rs = words::field_a(words::at(&*memory, less_one(at)));
-    put_word(memory, at, words::word(words::ADDI, 0, rs, 0, 0));
-    if guards {
-        write_range(n, less_one(n), 0, sum(at, 1), memory);
-        write_label_test(n, id, sum(at, 5), memory);
-    } else {
-        write_label_test(n, id, sum(at, 1), memory);
+// A word of a guard but its first.
+fn inside(seed: u64, guards: bool, plan: &[usize; 512], n: usize, len: usize, at: usize) -> Drawn {
+    let first = safe_place(plan, at);
+    let item = planned_at(plan, first);
+    let k = less(at, sum(first, 1));
+    if item == STORE {
+        return inside_store(seed, n, len, k);
+    }
+    let from = if guards { 0 } else { sequences::LABEL_TEST };
+    let guard = sequences::jump_guard(n, lowest_label(plan, n, item % 16));
+    Drawn {
+        x: sequences::guard_word(guard, sum(from, k)),
+        seed: seed,
     }
 }
 
-fn write_range(n: usize, high: usize, low: usize, at: usize, memory: &mut [u64; 4096]) {
-    put_word(memory, at, movi(1, high));
-    put_word(memory, sum(at, 1), movi(2, low));
-    put_word(memory, sum(at, 2), bgt(0, 1, less_one(n)));
-    put_word(memory, sum(at, 3), bgt(2, 0, less_one(n)));
-}
-
-fn write_label_test(n: usize, id: usize, at: usize, memory: &mut [u64; 4096]) {
-    put_word(memory, at, words::word(words::LD, 1, 0, 0, 0));
-    put_word(memory, sum(at, 1), movi(2, id));
-    put_word(memory, sum(at, 2), bgt(1, 2, less_one(n)));
-    put_word(memory, sum(at, 3), bgt(2, 1, less_one(n)));
-    put_word(memory, sum(at, 4), words::word(words::JMP, 0, 0, 0, 0));
-}
-
-fn write_store(
-    seed: &mut u64,
-    guards: bool,
-    n: usize,
-    len: usize,
-    at: usize,
-    memory: &mut [u64; 4096],
-) {
-    if guards {
-        write_guarded_store(seed, n, len, at, memory);
+fn inside_store(seed: u64, n: usize, len: usize, k: usize) -> Drawn {
+    let rs = below(seed, 32);
+    if k < sequences::LABEL_TEST {
+        Drawn {
+            x: sequences::guard_word(sequences::store_guard(n, len), k),
+            seed: seed,
+        }
     } else {
-        put_word(memory, at, store(seed, len));
+        Drawn {
+            x: word(words::ST, 0, rs.x, 0, 0),
+            seed: rs.seed,
+        }
     }
 }
 
-fn write_guarded_store(seed: &mut u64, n: usize, len: usize, at: usize, memory: &mut [u64; 4096]) {
-    let rd = words::field_a(words::at(&*memory, less_one(at)));
-    let w = words::low32(random::below(seed, 3));
-    put_word(memory, at, words::word(words::ADDI, 0, rd, 0, w));
-    write_range(n, less_one(len), n, sum(at, 1), memory);
-    put_word(
-        memory,
-        sum(at, 5),
-        words::word(words::ST, 0, random::register(seed), 0, 0),
-    );
+// A store, or the first word of its guard, which takes the register that the word before aimed.
+fn store(seed: u64, guards: bool, len: usize, before: usize) -> Drawn {
+    if guards {
+        let w = below(seed, 3);
+        Drawn {
+            x: word(words::ADDI, 0, words::fields_of(before).a, 0, w.x),
+            seed: w.seed,
+        }
+    } else {
+        let rd = below(seed, 32);
+        let rs = below(rd.seed, 32);
+        let w = below(rs.seed, len);
+        Drawn {
+            x: word(words::ST, rd.x, rs.x, 0, w.x),
+            seed: w.seed,
+        }
+    }
 }
 
-fn lowest_label(plan: &[u16; 512], n: usize, set: u16) -> usize {
+// The aim of a jump, the first word of its guard, which takes the register that the word before aimed, or a label.
+fn of_set(seed: u64, plan: &[usize; 512], n: usize, item: usize, before: usize) -> Drawn {
+    let set = item % 16;
+    if item >= AIM_OF {
+        let target = some_label(seed, plan, n, set);
+        return aim(target.seed, target.x);
+    }
+    let made = if item >= JUMP_OF {
+        word(words::ADDI, 0, words::fields_of(before).a, 0, 0)
+    } else {
+        lowest_label(plan, n, set)
+    };
+    Drawn {
+        x: made,
+        seed: seed,
+    }
+}
+
+fn aim_at_data(seed: u64, n: usize, len: usize) -> Drawn {
+    let data = below(seed, less(len, n));
+    aim(data.seed, sum(n, data.x))
+}
+
+fn aim(seed: u64, address: usize) -> Drawn {
+    let rd = below(seed, 32);
+    Drawn {
+        x: word(words::MOVI, rd.x, 0, 0, address),
+        seed: rd.seed,
+    }
+}
+
+fn lowest_label(plan: &[usize; 512], n: usize, set: usize) -> usize {
     let mut at = 0;
     while at < n {
-        if number(plan, at) == std::num::wrapping_add_u16(LABEL_OF, set) {
+        if planned_at(plan, at) == sum(LABEL_OF, set) {
             return at;
         }
         at += 1;
@@ -403,61 +439,52 @@ fn lowest_label(plan: &[u16; 512], n: usize, set: u16) -> usize {
     0
 }
 
-// A label of the set, or at times any address.
-fn some_label(seed: &mut u64, plan: &[u16; 512], n: usize, set: u16) -> usize {
+// A label of the set, found by chance, or else the lowest.
+fn some_label(seed: u64, plan: &[usize; 512], n: usize, set: usize) -> Drawn {
+    let mut next = seed;
     let mut turns: usize = 0;
     while turns < 40 {
-        let at = random::below(seed, n);
-        if number(plan, at) == std::num::wrapping_add_u16(LABEL_OF, set) {
+        let at = below(next, n);
+        if planned_at(plan, at.x) == sum(LABEL_OF, set) {
             return at;
         }
+        next = at.seed;
         turns += 1;
     }
-    lowest_label(plan, n, set)
+    Drawn {
+        x: lowest_label(plan, n, set),
+        seed: next,
+    }
 }
 
 // An edge from each jump to each label of its set; how many edge numbers.
-fn write_edges(plan: &[u16; 512], n: usize, edges: &mut [u16; 4200]) -> usize {
+fn write_edges(guards: bool, plan: &[usize; 512], n: usize, edges: &mut [u16; 4200]) -> usize {
+    let after = sequences::words_after_first(guards, words::JMP);
     let mut numbers = 0;
     let mut at = 0;
     while at < n {
-        let item = number(plan, at);
-        if item >= JUMP_OF {
-            if item < AIM_OF {
-                let last = sum(at, words_after(plan, at));
-                numbers = write_targets(plan, n, last, item % 16, numbers, edges);
-            }
+        let item = planned_at(plan, at);
+        if is_jump(item) {
+            numbers = write_targets(plan, n, sum(at, after), item % 16, numbers, edges);
         }
         at += 1;
     }
     numbers
 }
 
-// How many words inside a guard follow its first.
-fn words_after(plan: &[u16; 512], at: usize) -> usize {
-    let mut k = 0;
-    while k < 9 {
-        if number(plan, sum(sum(at, 1), k)) != INSIDE {
-            return k;
-        }
-        k += 1;
-    }
-    k
-}
-
 fn write_targets(
-    plan: &[u16; 512],
+    plan: &[usize; 512],
     n: usize,
     jump: usize,
-    set: u16,
+    set: usize,
     start: usize,
     edges: &mut [u16; 4200],
 ) -> usize {
     let mut numbers = start;
     let mut at = 0;
     while at < n {
-        if number(plan, at) == std::num::wrapping_add_u16(LABEL_OF, set) {
-            put_edge(edges, numbers, short(jump), short(at));
+        if planned_at(plan, at) == sum(LABEL_OF, set) {
+            put_edge(edges, numbers, jump, at);
             numbers = sum(numbers, 2);
         }
         at += 1;
@@ -465,39 +492,32 @@ fn write_targets(
     numbers
 }
 
-fn shuffle(seed: &mut u64, edges: &mut [u16; 4200], count: usize) {
+fn shuffle(seed: u64, edges: &mut [u16; 4200], count: usize) -> u64 {
+    let mut next = seed;
     let mut k = 0;
     while k < count {
-        let other = random::below(seed, count);
-        swap(edges, k, other);
+        let other = below(next, count);
+        swap(edges, k, other.x);
+        next = other.seed;
         k += 1;
     }
+    next
 }
 
-pub(crate) fn swap(edges: &mut [u16; 4200], i: usize, j: usize) {
-    let a = sum(i, i);
-    let b = sum(j, j);
-    let from = number(&*edges, a);
-    let to = number(&*edges, sum(a, 1));
-    let other_from = number(&*edges, b);
-    let other_to = number(&*edges, sum(b, 1));
-    put_edge(edges, a, other_from, other_to);
-    put_edge(edges, b, from, to);
-}
-
-fn repeat_edges(seed: &mut u64, edges: &mut [u16; 4200], numbers: usize, repeats: usize) -> usize {
+fn repeat_edges(seed: u64, edges: &mut [u16; 4200], numbers: usize, repeats: usize) -> Drawn {
+    if numbers == 0 {
+        return Drawn { x: 0, seed: seed };
+    }
+    let mut next = seed;
     let mut end = numbers;
     let mut k = 0;
     while k < repeats {
-        if numbers > 0 {
-            let edge = random::below(seed, numbers / 2);
-            let a = sum(edge, edge);
-            let from = number(&*edges, a);
-            let to = number(&*edges, sum(a, 1));
-            put_edge(edges, end, from, to);
-            end = sum(end, 2);
-        }
+        let drawn = below(next, numbers / 2);
+        let again = edge_at(&*edges, drawn.x);
+        put_edge(edges, end, again.from, again.to);
+        next = drawn.seed;
+        end = sum(end, 2);
         k += 1;
     }
-    end
+    Drawn { x: end, seed: next }
 }

@@ -1,11 +1,15 @@
 // Random lists of calls over accepted programs (document 01, "Lists of calls"): each step made is held against the graph of the
 // checked words and edges, and after each step all code words are those checked. A run is made twice, as a run and as its steps
 // one by one, on two memories that must stay the same.
-use crate::codes;
-use crate::codes::add_one;
-use crate::print;
+use crate::codes::Course;
+use crate::codes::technique;
 use crate::random;
+use crate::random::Drawn;
+use crate::random::below;
 use crate::second;
+use crate::tally;
+use crate::tally::Tally;
+use crate::tally::count;
 use crate::words;
 use machine::Ending;
 use machine::Outcome;
@@ -13,271 +17,281 @@ use machine::Ran;
 use machine::State;
 use machine::Written;
 
-// Where a tally keeps what is counted here.
-const LISTS: usize = 0;
+// A list of calls under way: what has been counted so far, and the seed of what is drawn next.
+struct Walk {
+    state: State,
+    tally: Tally,
+    seed: u64,
+}
 
-const STEPS: usize = 1;
+// A step that was tried: its word's kind, the stop's number, or 0 where it was made, whether it kept to the graph, and
+// whether the code is as it was.
+struct Tried {
+    state: State,
+    kind: usize,
+    stop: u8,
+    follows: bool,
+    kept: bool,
+}
 
-const JUMPS: usize = 2;
-
-const STORES: usize = 3;
-
-const OUTSIDE: usize = 4;
-
-const CODE_CHANGED: usize = 5;
-
-const STOPS: usize = 6;
-
-const WRONG_STOPS: usize = 7;
-
-const RUNS: usize = 8;
-
-const WRONG_RUNS: usize = 9;
-
-const WRITES: usize = 10;
-
-const REFUSED_WRITES: usize = 11;
-
-const WRONG_WRITES: usize = 12;
-
-// What trying steps came to: how many were made, and the stop's number, or 0 where the limit was reached.
+// What trying steps came to: how many were made, and the last one's stop.
 struct Walked {
     state: State,
+    tally: Tally,
     count: u16,
     stop: u8,
 }
 
 pub(crate) fn hold_list(
-    seed: &mut u64,
+    course: Course,
     guards: bool,
     checked: &[u64],
     n: usize,
     edges: &[u16],
-    tally: &mut [u64; 24],
-) {
+) -> Course {
     let len = checked.len();
     if len > 512 {
-        return;
+        return course;
     }
-    add_one(tally, LISTS);
+    let start = fresh(course, len);
     let mut memory = copied(checked);
     let mut twin = copied(checked);
     make_calls(
-        seed,
+        start,
         guards,
         checked,
         n,
         edges,
         &mut memory[0..len],
         &mut twin[0..len],
-        tally,
-    );
+    )
+}
+
+// Forty calls.
+fn make_calls(
+    start: Walk,
+    guards: bool,
+    checked: &[u64],
+    n: usize,
+    edges: &[u16],
+    memory: &mut [u64],
+    twin: &mut [u64],
+) -> Course {
+    let mut walk = start;
+    let mut k: usize = 0;
+    while k < 40 {
+        walk = call_once(walk, guards, checked, n, edges, memory, twin);
+        k += 1;
+    }
+    let tally = walk.tally;
+    Course {
+        tally: tally,
+        seed: walk.seed,
+    }
 }
 
 fn copied(words: &[u64]) -> [u64; 512] {
     let mut copy = [0u64; 512];
     let mut k: usize = 0;
     while k < 512 {
-        copy[k] = words::at(words, k);
+        copy[k] = words::at(words, k) as u64;
         k += 1;
     }
     copy
 }
 
-// Forty calls from a fresh state.
-fn make_calls(
-    seed: &mut u64,
-    guards: bool,
-    checked: &[u64],
-    n: usize,
-    edges: &[u16],
-    memory: &mut [u64],
-    twin: &mut [u64],
-    tally: &mut [u64; 24],
-) {
-    let mut state = State::fresh(random_registers(seed, checked.len()));
-    let mut k: usize = 0;
-    while k < 40 {
-        state = call_once(seed, guards, checked, n, edges, state, memory, twin, tally);
+// A state with random registers.
+fn fresh(course: Course, len: usize) -> Walk {
+    let mut regs = [0u64; 32];
+    let mut next = course.seed;
+    let mut k = 0;
+    while k < 32 {
+        let drawn = random::word(next, len);
+        regs[k] = drawn.x as u64;
+        next = drawn.seed;
         k += 1;
+    }
+    let tally = course.tally;
+    Walk {
+        state: State::fresh(regs),
+        tally: count(tally, tally::LISTS, true),
+        seed: next,
     }
 }
 
 // A run or a step, half of the time, or a bus write to a register or a word.
 fn call_once(
-    seed: &mut u64,
+    walk: Walk,
     guards: bool,
     checked: &[u64],
     n: usize,
     edges: &[u16],
-    state: State,
     memory: &mut [u64],
     twin: &mut [u64],
-    tally: &mut [u64; 24],
-) -> State {
+) -> Walk {
     let len = checked.len();
-    if random::once_in(seed, 2) {
-        let limit = random_limit(seed);
-        return run_twice(guards, checked, n, edges, state, limit, memory, twin, tally);
+    let drawn = random_call(walk.seed);
+    let call = drawn.x;
+    match call {
+        0 => run_twice(walk, drawn.seed, guards, checked, n, edges, memory, twin),
+        1 => write_register(walk, drawn.seed, len),
+        _ => write_both(walk, drawn.seed, n, len, memory, twin),
     }
-    if random::once_in(seed, 2) {
-        return write_register(seed, state, len, tally);
-    }
-    let address = random_address(seed, n, len);
-    let word = random::word(seed, len);
-    write_word(memory, n, address, word, tally);
-    write_word(twin, n, address, word, tally);
-    state
 }
 
-fn random_registers(seed: &mut u64, len: usize) -> [u64; 32] {
-    let mut regs = [0u64; 32];
-    let mut k = 0;
-    while k < 32 {
-        regs[k] = random::word(seed, len);
-        k += 1;
+fn random_call(seed: u64) -> Drawn {
+    let half = below(seed, 2);
+    let quarter = below(half.seed, 2);
+    if half.x == 0 {
+        half
+    } else {
+        Drawn {
+            x: std::num::wrapping_add_usize(quarter.x, 1),
+            seed: quarter.seed,
+        }
     }
-    regs
 }
 
 // One step most of the time.
-fn random_limit(seed: &mut u64) -> u16 {
-    if random::once_in(seed, 3) {
-        (random::below(seed, 60) % 60) as u16
+fn random_limit(seed: u64) -> Drawn {
+    let third = below(seed, 3);
+    if third.x == 0 {
+        below(third.seed, 60)
     } else {
-        1
+        Drawn {
+            x: 1,
+            seed: third.seed,
+        }
     }
 }
 
 // An address of data most of the time.
-fn random_address(seed: &mut u64, n: usize, len: usize) -> u64 {
-    if random::once_in(seed, 4) {
-        random::word(seed, len)
+fn random_address(seed: u64, n: usize, len: usize) -> Drawn {
+    let quarter = below(seed, 4);
+    if quarter.x == 0 {
+        random::word(quarter.seed, len)
     } else {
-        let data = std::num::wrapping_sub_usize(len, n);
-        std::num::wrapping_add_usize(n, random::below(seed, data)) as u64
+        let data = below(quarter.seed, std::num::wrapping_sub_usize(len, n));
+        Drawn {
+            x: std::num::wrapping_add_usize(n, data.x),
+            seed: data.seed,
+        }
     }
 }
 
 fn run_twice(
+    walk: Walk,
+    seed: u64,
     guards: bool,
     checked: &[u64],
     n: usize,
     edges: &[u16],
-    state: State,
-    limit: u16,
     memory: &mut [u64],
     twin: &mut [u64],
-    tally: &mut [u64; 24],
-) -> State {
-    let walked = walk(guards, checked, n, edges, state, limit, memory, tally);
-    let ran = machine::run(codes::technique(guards), state, twin, n, limit);
-    add_one(tally, RUNS);
-    if !(same_run(ran, walked) && same_words(&memory[..], &twin[..], checked.len())) {
-        add_one(tally, WRONG_RUNS);
+) -> Walk {
+    let drawn = random_limit(seed);
+    let limit = (drawn.x % 60) as u16;
+    let state = walk.state;
+    let walked = walk_steps(walk, guards, checked, n, edges, limit, memory);
+    let ran = machine::run(technique(guards), state, twin, n, limit);
+    let same = same_words(&*memory, &*twin, checked.len());
+    let tally = walked.tally;
+    let after = ran.state;
+    Walk {
+        state: after,
+        tally: count_run(tally, same & same_run(ran, walked)),
+        seed: drawn.seed,
     }
-    ran.state
+}
+
+fn count_run(tally: Tally, same: bool) -> Tally {
+    count(count(tally, tally::RUNS, true), tally::WRONG_RUNS, !same)
 }
 
 fn same_run(ran: Ran, walked: Walked) -> bool {
     let after = ran.state;
     let by_steps = walked.state;
     let ending = ran.ending;
-    same_state(after, by_steps) && ran.count == walked.count && ending_number(ending) == walked.stop
+    same_state(after, by_steps)
+        & (ran.count == walked.count)
+        & (ending_number(ending) == walked.stop)
 }
 
 // Steps one by one, each held, until one cannot be made or the limit is reached.
-fn walk(
+fn walk_steps(
+    walk: Walk,
     guards: bool,
     checked: &[u64],
     n: usize,
     edges: &[u16],
-    start: State,
     limit: u16,
     memory: &mut [u64],
-    tally: &mut [u64; 24],
 ) -> Walked {
-    let mut state = start;
+    let mut state = walk.state;
+    let mut tally = walk.tally;
+    let mut stop: u8 = 0;
     let mut count: u16 = 0;
     while count < limit {
-        let one = step_held(guards, checked, n, edges, state, memory, tally);
-        state = one.state;
-        if one.stop != 0 {
-            return Walked {
-                state: state,
-                count: count,
-                stop: one.stop,
-            };
+        let tried = try_step(guards, checked, n, edges, state, memory);
+        tally = hold(tally, guards, tried);
+        state = tried.state;
+        stop = tried.stop;
+        if stop != 0 {
+            break;
         }
         count += 1;
     }
     Walked {
         state: state,
+        tally: tally,
         count: count,
-        stop: 0,
+        stop: stop,
     }
 }
 
-fn step_held(
+fn try_step(
     guards: bool,
     checked: &[u64],
     n: usize,
     edges: &[u16],
     state: State,
     memory: &mut [u64],
-    tally: &mut [u64; 24],
-) -> Walked {
+) -> Tried {
     let pc = state.pc as usize;
-    let stepped = machine::step(codes::technique(guards), state, memory, n);
+    let stepped = machine::step(technique(guards), state, memory, n);
     let after = stepped.state;
+    let next = after.pc as usize;
     let outcome = stepped.outcome;
-    let stop = outcome_number(outcome);
-    if stop == 0 {
-        hold_made(checked, n, edges, pc, after.pc as usize, tally);
-    } else {
-        hold_stop(guards, words::kind_at(checked, pc), stop, tally);
-    }
-    if !same_words(checked, &memory[..], n) {
-        add_one(tally, CODE_CHANGED);
-    }
-    Walked {
+    Tried {
         state: after,
-        count: 1,
-        stop: stop,
+        kind: words::kind_at(checked, pc),
+        stop: outcome_number(outcome),
+        follows: second::succeeds(checked, n, edges, pc, next),
+        kept: same_words(checked, &*memory, n),
     }
 }
 
-fn hold_made(
-    checked: &[u64],
-    n: usize,
-    edges: &[u16],
-    pc: usize,
-    next: usize,
-    tally: &mut [u64; 24],
-) {
-    let kind = words::kind_at(checked, pc);
-    add_one(tally, STEPS);
-    if kind == words::JMP {
-        add_one(tally, JUMPS);
+fn hold(tally: Tally, guards: bool, tried: Tried) -> Tally {
+    let kept = count(tally, tally::CODE_CHANGED, !tried.kept);
+    if tried.stop == 0 {
+        hold_made(kept, tried.kind, tried.follows)
+    } else {
+        hold_stop(kept, guards, tried.kind, tried.stop)
     }
-    if kind == words::ST {
-        add_one(tally, STORES);
-    }
-    if !second::succeeds(checked, n, edges, pc, next) {
-        add_one(tally, OUTSIDE);
-    }
+}
+
+fn hold_made(tally: Tally, kind: usize, follows: bool) -> Tally {
+    let steps = count(tally, tally::STEPS, true);
+    let jumps = count(steps, tally::JUMPS, kind == words::JMP);
+    let stores = count(jumps, tally::STORES, kind == words::ST);
+    count(stores, tally::OUTSIDE, !follows)
 }
 
 // "With memory guards, every step in it that cannot be made gives stop 2, or stop 3 with a load at the pc."
-fn hold_stop(guards: bool, kind: u8, stop: u8, tally: &mut [u64; 24]) {
-    add_one(tally, STOPS);
-    let right = stop == 2 || stop == 3 && kind == words::LD;
-    if guards && !right {
-        add_one(tally, WRONG_STOPS);
-    }
-    if stop > 4 {
-        add_one(tally, WRONG_STOPS);
-    }
+fn hold_stop(tally: Tally, guards: bool, kind: usize, stop: u8) -> Tally {
+    let right = (stop == 2) | ((stop == 3) & (kind == words::LD));
+    let wrong = (stop > 4) | (guards & !right);
+    count(count(tally, tally::STOPS, true), tally::WRONG_STOPS, wrong)
 }
 
 // 0 where the step was made, the stop's number, or 99 for a refusal.
@@ -298,14 +312,7 @@ fn ending_number(ending: Ending) -> u8 {
 }
 
 fn same_state(a: State, b: State) -> bool {
-    let mut k = 0;
-    while k < 32 {
-        if a.regs[k] != b.regs[k] {
-            return false;
-        }
-        k += 1;
-    }
-    a.pc == b.pc
+    same_words(&a.regs, &b.regs, 32) & (a.pc == b.pc)
 }
 
 fn same_words(a: &[u64], b: &[u64], count: usize) -> bool {
@@ -327,52 +334,57 @@ fn written_number(written: Written) -> u8 {
     }
 }
 
-fn write_word(memory: &mut [u64], n: usize, address: u64, word: u64, tally: &mut [u64; 24]) {
-    let at = address as usize;
-    let right = if at < n || at >= memory.len() { 16 } else { 0 };
-    let number = written_number(machine::write_data(memory, n, address, word));
-    count_write(number, right, tally);
-    if number == 0 && words::at(&memory[..], at) != word {
-        add_one(tally, WRONG_WRITES);
+// The same word to both memories.
+fn write_both(
+    walk: Walk,
+    seed: u64,
+    n: usize,
+    len: usize,
+    memory: &mut [u64],
+    twin: &mut [u64],
+) -> Walk {
+    let address = random_address(seed, n, len);
+    let word = random::word(address.seed, len);
+    let state = walk.state;
+    let once = write_word(walk.tally, memory, n, address.x, word.x);
+    Walk {
+        state: state,
+        tally: write_word(once, twin, n, address.x, word.x),
+        seed: word.seed,
     }
+}
+
+fn write_word(tally: Tally, memory: &mut [u64], n: usize, address: usize, word: usize) -> Tally {
+    let len = memory.len();
+    let written = machine::write_data(memory, n, address as u64, word as u64);
+    let number = written_number(written);
+    let there = words::at(&*memory, address) == word;
+    let inside = (address >= n) & (address < len);
+    let right = if inside { 0 } else { 16 };
+    count_write(tally, number, right, there)
 }
 
 // A register of any number, mostly one that the bus may write.
-fn write_register(seed: &mut u64, state: State, len: usize, tally: &mut [u64; 24]) -> State {
-    let register = random::below(seed, 34);
-    let word = random::word(seed, len);
-    let right = if register < 3 || register > 31 { 17 } else { 0 };
-    let written = machine::write_register(state, register as u64, word);
+fn write_register(walk: Walk, seed: u64, len: usize) -> Walk {
+    let register = below(seed, 34);
+    let word = random::word(register.seed, len);
+    let state = walk.state;
+    let written = machine::write_register(state, register.x as u64, word.x as u64);
     let answer = written.answer;
-    count_write(written_number(answer), right, tally);
-    written.state
-}
-
-fn count_write(number: u8, right: u8, tally: &mut [u64; 24]) {
-    add_one(tally, WRITES);
-    if number != 0 {
-        add_one(tally, REFUSED_WRITES);
-    }
-    if number != right {
-        add_one(tally, WRONG_WRITES);
+    let after = written.state;
+    let writable = (register.x >= 3) & (register.x <= 31);
+    let right = if writable { 0 } else { 17 };
+    Walk {
+        state: after,
+        tally: count_write(walk.tally, written_number(answer), right, true),
+        seed: word.seed,
     }
 }
 
-pub(crate) fn print_steps(tally: &[u64; 24]) {
-    print::line(b"lists of calls ", tally[LISTS]);
-    print::counted(b"steps held ", tally[STEPS]);
-    print::counted(b" (jumps ", tally[JUMPS]);
-    print::counted(b", stores ", tally[STORES]);
-    print::counted(b"), outside the graph ", tally[OUTSIDE]);
-    print::line(b", code changed ", tally[CODE_CHANGED]);
-}
-
-pub(crate) fn print_writes(tally: &[u64; 24]) {
-    print::counted(b"stops ", tally[STOPS]);
-    print::line(b", of a wrong number ", tally[WRONG_STOPS]);
-    print::counted(b"runs ", tally[RUNS]);
-    print::line(b", unlike their steps ", tally[WRONG_RUNS]);
-    print::counted(b"bus writes ", tally[WRITES]);
-    print::counted(b", refused ", tally[REFUSED_WRITES]);
-    print::line(b", answered wrongly ", tally[WRONG_WRITES]);
+// A write gave a number, or 0, and should have given another; where it gave 0 the word must be there.
+fn count_write(tally: Tally, number: u8, right: u8, there: bool) -> Tally {
+    let writes = count(tally, tally::WRITES, true);
+    let refused = count(writes, tally::REFUSED_WRITES, number != 0);
+    let wrong = (number != right) | ((number == 0) & !there);
+    count(refused, tally::WRONG_WRITES, wrong)
 }

@@ -1,101 +1,98 @@
 // Random codes, most of them damaged, by both checkers: how often each number came up, and how often the two disagreed.
 use crate::build;
-use crate::build::Sizes;
+use crate::build::Code;
 use crate::calls;
-use crate::damage;
-use crate::print;
-use crate::random;
+use crate::damage::damaged;
+use crate::random::below;
 use crate::second;
+use crate::second::Finding;
+use crate::tally;
+use crate::tally::Tally;
+use crate::tally::count;
 use answers::Place;
 use answers::Verdict;
 use isa::Technique;
 
-// Where a tally keeps what the numbers 0 to 15 leave free.
-const DISAGREEMENTS: usize = 16;
-
-// The number and the place of a verdict, told as the second checker tells them; how a place is counted comes first.
-struct Finding {
-    number: u8,
-    counts: u8,
-    place: usize,
+// What has been counted so far, and the seed of what is drawn next.
+pub(crate) struct Course {
+    pub(crate) tally: Tally,
+    pub(crate) seed: u64,
 }
 
-pub(crate) fn compare_some(turns: usize, tally: &mut [u64; 24], held: &mut [u64; 24]) {
-    let mut seed: u64 = 0x1234_5678_9abc_def1;
+pub(crate) fn compare_some(turns: usize) -> [u64; 32] {
     let mut memory = [0u64; 4096];
     let mut edges = [0u16; 4200];
+    let mut course = Course {
+        tally: Tally { counts: [0; 32] },
+        seed: 0x1234_5678_9abc_def1,
+    };
     let mut k = 0;
     while k < turns {
-        compare_one(&mut seed, &mut memory, &mut edges, tally, held);
+        course = compare_one(course, &mut memory, &mut edges);
         k += 1;
     }
+    let tally = course.tally;
+    tally.counts
 }
 
-fn compare_one(
-    seed: &mut u64,
-    memory: &mut [u64; 4096],
-    edges: &mut [u16; 4200],
-    tally: &mut [u64; 24],
-    held: &mut [u64; 24],
-) {
-    let guards = random::once_in(seed, 2);
-    let whole = build::program(seed, guards, memory, edges);
-    let sizes = damage_some(seed, memory, edges, whole);
-    let asked = if random::once_in(seed, 30) {
-        !guards
-    } else {
-        guards
-    };
-    compare(seed, asked, &*memory, &*edges, sizes, tally, held);
+fn compare_one(course: Course, memory: &mut [u64; 4096], edges: &mut [u16; 4200]) -> Course {
+    let half = below(course.seed, 2);
+    let guards = half.x == 0;
+    let whole = build::program(half.seed, guards, memory, edges);
+    let code = damage_some(whole, memory, edges);
+    let other = below(code.seed, 30);
+    let asked = guards != (other.x == 0);
+    let tally = course.tally;
+    compare(tally, asked, code.seeded(other.seed), &*memory, &*edges)
 }
 
 // Most programs get a fault, many get two, some none.
-fn damage_some(
-    seed: &mut u64,
-    memory: &mut [u64; 4096],
-    edges: &mut [u16; 4200],
-    sizes: Sizes,
-) -> Sizes {
-    match random::below(seed, 8) {
-        0 => sizes,
-        1 | 2 | 3 => {
-            let once = damage::damaged(seed, memory, edges, sizes);
-            damage::damaged(seed, memory, edges, once)
+fn damage_some(code: Code, memory: &mut [u64; 4096], edges: &mut [u16; 4200]) -> Code {
+    let drawn = below(code.seed, 8);
+    let next = code.seeded(drawn.seed);
+    if drawn.x == 0 {
+        return next;
+    }
+    let once = damaged(next, memory, edges);
+    if drawn.x > 3 {
+        return once;
+    }
+    damaged(once, memory, edges)
+}
+
+// A code that does not fit the lent places is passed over.
+fn compare(tally: Tally, guards: bool, code: Code, memory: &[u64], edges: &[u16]) -> Course {
+    let len = code.len;
+    let numbers = code.numbers;
+    if len <= memory.len() {
+        if numbers <= edges.len() {
+            return compare_both(tally, guards, code, &memory[0..len], &edges[0..numbers]);
         }
-        _ => damage::damaged(seed, memory, edges, sizes),
+    }
+    Course {
+        tally: tally,
+        seed: code.seed,
     }
 }
 
 // Both checkers on one code; a list of calls too, where it is accepted.
-fn compare(
-    seed: &mut u64,
-    guards: bool,
-    memory: &[u64],
-    edges: &[u16],
-    sizes: Sizes,
-    tally: &mut [u64; 24],
-    held: &mut [u64; 24],
-) {
-    let n = sizes.n;
-    let len = sizes.len;
-    let numbers = sizes.numbers;
-    if len > memory.len() {
-        return;
-    }
-    if numbers > edges.len() {
-        return;
-    }
-    let m = &memory[0..len];
-    let e = &edges[0..numbers];
-    let first = finding_of(checker::check(technique(guards), m, n, e));
-    let other = second::check(guards, m, n, e);
-    add_one(tally, other.number as usize);
-    if !agree(first, other) {
-        add_one(tally, DISAGREEMENTS);
-    }
+fn compare_both(tally: Tally, guards: bool, code: Code, memory: &[u64], edges: &[u16]) -> Course {
+    let first = finding_of(guards, memory, code.n, edges);
+    let other = second::check(guards, memory, code.n, edges);
+    let counted = count(tally, other.number, true);
+    let course = Course {
+        tally: count(counted, tally::DISAGREEMENTS, !agree(first, other)),
+        seed: code.seed,
+    };
     if first.number == 0 {
-        calls::hold_list(seed, guards, m, n, e, held);
+        calls::hold_list(course, guards, memory, code.n, edges)
+    } else {
+        course
     }
+}
+
+fn agree(a: Finding, b: Finding) -> bool {
+    (a.number == b.number) & (a.counts == b.counts) & (a.place == b.place)
 }
 
 pub(crate) fn technique(guards: bool) -> Technique {
@@ -106,24 +103,20 @@ pub(crate) fn technique(guards: bool) -> Technique {
     }
 }
 
-pub(crate) fn add_one(tally: &mut [u64; 24], i: usize) {
-    if i < 24 {
-        tally[i] = std::num::wrapping_add_u64(tally[i], 1);
-    }
-}
-
-fn finding_of(verdict: Verdict) -> Finding {
+// What the first checker finds, as the second tells it.
+fn finding_of(guards: bool, memory: &[u64], n: usize, edges: &[u16]) -> Finding {
+    let verdict = checker::check(technique(guards), memory, n, edges);
     match verdict {
         Verdict::Accepted => Finding {
             number: 0,
             counts: 0,
             place: 0,
         },
-        Verdict::Refused(refusal, place) => placed(answers::number(refusal), place),
+        Verdict::Refused(refusal, place) => placed(answers::number(refusal) as usize, place),
     }
 }
 
-fn placed(number: u8, place: Place) -> Finding {
+fn placed(number: usize, place: Place) -> Finding {
     match place {
         Place::Edge(k) => Finding {
             number: number,
@@ -141,35 +134,4 @@ fn placed(number: u8, place: Place) -> Finding {
             place: 0,
         },
     }
-}
-
-// "7 and 8 go with the place of the first faulty edge, from 0; 9 to 15 with the lowest faulty address."
-fn agree(first: Finding, other: second::Answer) -> bool {
-    first.number == other.number
-        && first.place == other.place
-        && first.counts == counted(other.number)
-}
-
-fn counted(number: u8) -> u8 {
-    match number {
-        7 | 8 => 1,
-        9..=15 => 2,
-        _ => 0,
-    }
-}
-
-// How often each number came up, and how often the two checkers disagreed.
-pub(crate) fn print_tally(tally: &[u64; 24]) {
-    print::line(b"accepted ", tally[0]);
-    let mut number: usize = 6;
-    while number <= 15 {
-        print_number(number, tally[number]);
-        number += 1;
-    }
-    print::line(b"disagreements ", tally[DISAGREEMENTS]);
-}
-
-fn print_number(number: usize, count: u64) {
-    print::counted(b"refused ", number as u64);
-    print::line(b": ", count);
 }

@@ -3,16 +3,35 @@ mod build;
 mod calls;
 mod codes;
 mod damage;
-mod print;
+mod edges;
 mod random;
 mod second;
+mod sequences;
+mod tally;
 mod words;
 
 fn main() {
-    let mut tally = [0u64; 24];
-    let mut held = [0u64; 24];
-    codes::compare_some(60000, &mut tally, &mut held);
-    codes::print_tally(&tally);
-    calls::print_steps(&held);
-    calls::print_writes(&held);
+    let counts = codes::compare_some(60000);
+    tally::print(b"accepted #\n", &counts, 0);
+    tally::print(
+        b"refused 6: #
+refused 7: #
+refused 8: #
+refused 9: #
+refused 10: #
+refused 11: #
+refused 12: #
+refused 13: #
+refused 14: #
+refused 15: #
+disagreements #
+lists of calls #
+steps held # (jumps #, stores #), outside the graph #, code changed #
+stops #, of a wrong number #
+runs #, unlike their steps #
+bus writes #, refused #, answered wrongly #
+",
+        &counts,
+        6,
+    );
 }

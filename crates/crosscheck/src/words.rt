@@ -1,100 +1,84 @@
-// Instruction words a second time, by arithmetic (document 01, "Words and memory").
-ghost use mathlib.Core.Path.{_≡_};
+// Instruction words a second time (document 01, "Words and memory").
+pub(crate) const LABEL: usize = 0;
 
-pub(crate) const LABEL: u8 = 0;
+pub(crate) const ADD: usize = 1;
 
-pub(crate) const ADD: u8 = 1;
+pub(crate) const ADDI: usize = 2;
 
-pub(crate) const ADDI: u8 = 2;
+pub(crate) const MOVI: usize = 3;
 
-pub(crate) const MOVI: u8 = 3;
+pub(crate) const BGT: usize = 4;
 
-pub(crate) const BGT: u8 = 4;
+pub(crate) const JD: usize = 5;
 
-pub(crate) const JD: u8 = 5;
+pub(crate) const JMP: usize = 6;
 
-pub(crate) const JMP: u8 = 6;
+pub(crate) const LD: usize = 7;
 
-pub(crate) const LD: u8 = 7;
+pub(crate) const ST: usize = 8;
 
-pub(crate) const ST: u8 = 8;
+pub(crate) const ILLEGAL: usize = 9;
 
-pub(crate) const ILLEGAL: u8 = 9;
+// An illegal word, and one that no address holds.
+pub(crate) const ONES: usize = 0xffff_ffff_ffff_ffff;
 
-pub(crate) fn wide8(x: u8) -> u64
-    ensures { λ r. ⌜ r ≡ x ⌝ }
-{
-    x as u64
+const ANY: usize = 0xffff_ffff;
+
+pub(crate) struct Fields {
+    pub(crate) op: usize,
+    pub(crate) a: usize,
+    pub(crate) b: usize,
+    pub(crate) c: usize,
+    pub(crate) w: usize,
 }
 
-pub(crate) fn wide32(x: u32) -> u64
-    ensures { λ r. ⌜ r ≡ x ⌝ }
-{
-    x as u64
+pub(crate) fn fields_of(word: usize) -> Fields {
+    Fields {
+        op: word >> 56,
+        a: (word >> 48) & 255,
+        b: (word >> 40) & 255,
+        c: (word >> 32) & 255,
+        w: word & ANY,
+    }
 }
 
-pub(crate) fn low32(x: usize) -> u32 {
-    (x % 0x1_0000_0000) as u32
+// The word of these fields, each cut to its width.
+pub(crate) fn word(op: usize, a: usize, b: usize, c: usize, w: usize) -> usize {
+    (op << 56) | ((a & 255) << 48) | ((b & 255) << 40) | ((c & 255) << 32) | (w & ANY)
 }
 
-// The word of an opcode and its fields, whatever they are.
-pub(crate) fn word(opcode: u8, a: u8, b: u8, c: u8, w: u32) -> u64 {
-    wide8(opcode) * 0x100_0000_0000_0000
-        + wide8(a) * 0x1_0000_0000_0000
-        + wide8(b) * 0x100_0000_0000
-        + wide8(c) * 0x1_0000_0000
-        + wide32(w)
-}
-
-pub(crate) fn opcode(word: u64) -> u8 {
-    (word / 0x100_0000_0000_0000) as u8
-}
-
-pub(crate) fn field_a(word: u64) -> u8 {
-    (word / 0x1_0000_0000_0000 % 256) as u8
-}
-
-pub(crate) fn field_b(word: u64) -> u8 {
-    (word / 0x100_0000_0000 % 256) as u8
-}
-
-pub(crate) fn field_c(word: u64) -> u8 {
-    (word / 0x1_0000_0000 % 256) as u8
-}
-
-pub(crate) fn immediate(word: u64) -> u32 {
-    (word % 0x1_0000_0000) as u32
+fn within(f: Fields, a: usize, b: usize, c: usize, w: usize) -> bool {
+    (f.a <= a) & (f.b <= b) & (f.c <= c) & (f.w <= w)
 }
 
 // The opcode of a word that is an exact form, or ILLEGAL.
-pub(crate) fn kind(word: u64) -> u8 {
-    let op = opcode(word);
-    if op > ST {
-        return ILLEGAL;
-    }
-    let a = field_a(word);
-    let b = field_b(word);
-    let c = field_c(word);
-    let w = immediate(word);
-    let wrong = match op {
-        ADD => a > 31 || b > 31 || c > 31 || w > 0,
-        ADDI | BGT | LD | ST => a > 31 || b > 31 || c > 0,
-        MOVI => a > 31 || b > 0 || c > 0,
-        JMP => a > 31 || b > 0 || c > 0 || w > 0,
-        _ => a > 0 || b > 0 || c > 0,
+pub(crate) fn kind(word: usize) -> usize {
+    let f = fields_of(word);
+    let op = f.op;
+    let exact = match op {
+        LABEL => within(f, 0, 0, 0, ANY),
+        ADD => within(f, 31, 31, 31, 0),
+        ADDI => within(f, 31, 31, 0, ANY),
+        MOVI => within(f, 31, 0, 0, ANY),
+        BGT => within(f, 31, 31, 0, ANY),
+        JD => within(f, 0, 0, 0, ANY),
+        JMP => within(f, 31, 0, 0, 0),
+        LD => within(f, 31, 31, 0, ANY),
+        ST => within(f, 31, 31, 0, ANY),
+        _ => false,
     };
-    if wrong { ILLEGAL } else { op }
+    if exact { op } else { ILLEGAL }
 }
 
 // The word at an address, and an illegal one past the end.
-pub(crate) fn at(memory: &[u64], address: usize) -> u64 {
+pub(crate) fn at(memory: &[u64], address: usize) -> usize {
     if address < memory.len() {
-        memory[address]
+        memory[address] as usize
     } else {
-        0xffff_ffff_ffff_ffff
+        ONES
     }
 }
 
-pub(crate) fn kind_at(memory: &[u64], address: usize) -> u8 {
+pub(crate) fn kind_at(memory: &[u64], address: usize) -> usize {
     kind(at(memory, address))
 }

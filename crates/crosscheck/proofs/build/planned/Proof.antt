@@ -8,8 +8,8 @@ pub planned-spec : {M : Type 1} → statement M
 planned-spec =
     tie.close
     (tie.spec
-    (λ _ _ _ _ _ _ _ _ _ _ _ _ _. Unit {0})
-    (λ _ _ _ _ _ items _ _ _ _ _ _ k. items - k)
+    (λ _ _ _ _ _ _ _ _ _ _ _ _ _ _. Unit {0})
+    (λ _ _ _ _ _ items _ _ _ _ _ _ _ k. items - k)
     (λ c. omega arith)
     (λ c. omega arith)
     (λ c κs. tt)

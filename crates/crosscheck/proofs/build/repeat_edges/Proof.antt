@@ -8,12 +8,10 @@ pub repeat-edges-spec : {M : Type 1} → statement M
 repeat-edges-spec =
     tie.close
     (tie.spec
-    (λ _ _ _ _ _ _ _ _ _ _. Unit {0})
-    (λ _ _ _ repeats _ _ _ _ _ k. repeats - k)
+    (λ _ _ _ _ _ _ _ _ _ _ _. Unit {0})
+    (λ _ _ _ repeats _ _ _ _ _ _ k. repeats - k)
     (λ c. tt)
-    (λ c κs. tt)
-    (λ c κs. tt)
-    (λ c κs. tt)
+    (λ c. tt)
     (λ c κs. tt)
     (λ c κs. tt)
     (λ c κs. tt)

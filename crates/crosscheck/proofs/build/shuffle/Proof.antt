@@ -8,8 +8,8 @@ pub shuffle-spec : {M : Type 1} → statement M
 shuffle-spec =
     tie.close
     (tie.spec
-    (λ _ _ _ _ _ _ _. Unit {0})
-    (λ _ _ count _ _ _ k. count - k)
+    (λ _ _ _ _ _ _ _ _. Unit {0})
+    (λ _ _ count _ _ _ _ k. count - k)
     (λ c. tt)
     (λ c κs. tt)
     (λ c κs. tt)

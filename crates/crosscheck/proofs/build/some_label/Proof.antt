@@ -8,8 +8,8 @@ pub some-label-spec : {M : Type 1} → statement M
 some-label-spec =
     tie.close
     (tie.spec
-    (λ _ _ _ _ _ _ _. Unit {0})
-    (λ _ _ _ _ _ _ turns. 40 - turns)
+    (λ _ _ _ _ _ _ _ _. Unit {0})
+    (λ _ _ _ _ _ _ _ turns. 40 - turns)
     (λ c. tt)
     (λ c κs. tt)
     (λ c κs. tt)

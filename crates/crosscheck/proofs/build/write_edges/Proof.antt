@@ -8,8 +8,9 @@ pub write-edges-spec : {M : Type 1} → statement M
 write-edges-spec =
     tie.close
     (tie.spec
-    (λ _ _ _ _ _ _ _ _. Unit {0})
-    (λ _ n _ _ _ _ _ at. n - at)
+    (λ _ _ _ _ _ _ _ _ _ _. Unit {0})
+    (λ _ _ n _ _ _ _ _ _ at. n - at)
+    (λ c κs. tt)
     (λ c. tt)
     (λ c κs. tt)
     (λ c κs. tt)

@@ -15,8 +15,6 @@ write-targets-spec =
     (λ c κs. tt)
     (λ c κs. tt)
     (λ c κs. tt)
-    (λ c κs. tt)
-    (λ c κs. tt)
     (λ c. omega arith)
     (λ c. omega arith)
     (λ c. tt)

@@ -8,8 +8,8 @@ pub write-words-spec : {M : Type 1} → statement M
 write-words-spec =
     tie.close
     (tie.spec
-    (λ _ _ _ _ _ _ _ _ _ _. Unit {0})
-    (λ _ _ _ _ len _ _ _ _ at. len - at)
+    (λ _ _ _ _ _ _ _ _ _ _ _ _ _. Unit {0})
+    (λ _ _ _ _ len _ _ _ _ _ _ _ at. len - at)
     (λ c. tt)
     (λ c κs. tt)
     (λ c κs. tt)

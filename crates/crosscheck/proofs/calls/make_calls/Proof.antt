@@ -10,10 +10,8 @@ pub make-calls-spec : {M : Type 1} → statement M
 make-calls-spec =
     tie.close
     (tie.spec
-    (λ _ _ _ _ _ memory₀ twin₀ _ _ _ _ memory twin _ _ _. (length memory ≡ length memory₀) × (length twin ≡ length twin₀))
-    (λ _ _ _ _ _ _ _ _ _ _ _ _ _ _ _ k. 40 - k)
-    (λ c κs. tt)
-    (λ c κs. tt)
+    (λ _ _ _ _ memory₀ twin₀ _ _ memory twin _ _. (length memory ≡ length memory₀) × (length twin ≡ length twin₀))
+    (λ _ _ _ _ _ _ _ _ _ _ _ k. 40 - k)
     (λ c. (refl, refl))
     (λ c κs. tt)
     (λ c. omega arith)

@@ -8,8 +8,8 @@ pub compare-some-spec : {M : Type 1} → statement M
 compare-some-spec =
     tie.close
     (tie.spec
-    (λ _ _ _ _ _ _ _ _ _ _ _ _ _. Unit {0})
-    (λ turns _ _ _ _ _ _ _ _ _ _ _ k. turns - k)
+    (λ _ _ _ _ _ _ _ _ _. Unit {0})
+    (λ turns _ _ _ _ _ _ _ k. turns - k)
     (λ c. tt)
     (λ c κs. tt)
     (λ c. omega arith)

@@ -18,4 +18,5 @@ drop-jump-spec =
     (λ c. omega arith)
     (λ c. tt)
     (λ c κs. tt)
+    (λ c κs. tt)
     (λ c. tt))

@@ -12,6 +12,8 @@ first-fault-spec =
     (λ _ _ _ _ _ places _ k. places - k)
     (λ c. tt)
     (λ c κs. tt)
+    (λ c κs. tt)
+    (λ c κs. tt)
     (λ c. tt)
     (λ c. omega arith)
     (λ c. omega arith)

@@ -13,8 +13,6 @@ overlaps-some-spec =
     (λ c. tt)
     (λ c κs. tt)
     (λ c κs. tt)
-    (λ c κs. tt)
-    (λ c κs. tt)
     (λ c. tt)
     (λ c. omega arith)
     (λ c. omega arith)
