@@ -3,7 +3,6 @@ ghost use mathlib.Core.Path.{_≡_};
 ghost use Prim.Native.Nat.{_≤_};
 ghost use lib.ListN.{length};
 ghost use mathlib.Core.List.{[], _∷_};
-ghost use Rattle.isa.specs.Words.{kindOf, instrOf, fields};
 ghost use Rattle.machine.specs.Numbers.{endingNumber, writtenNumber};
 ghost use Rattle.lists.specs.Places.{putOver};
 ghost use Rattle.capi.specs.Words.{DecodeCall, encodeCall};
@@ -14,7 +13,6 @@ ghost use Rattle.parcel.specs.Parcel.{readOf, countsOf};
 ghost use Rattle.capi.specs.Parcels.{readNumber, noPlace, ReadCall, WriteCall};
 use answers::Place;
 use answers::Verdict;
-use isa::Instr;
 use isa::Technique;
 use machine::Ending;
 use machine::Written;
@@ -44,7 +42,7 @@ pub extern "C" fn pg_decode(word: u64, place: &mut [u32]) -> u32
 pub extern "C" fn pg_encode(opcode: u8, a: u8, b: u8, c: u8, w: u32) -> u64
     ensures { λ r. ⌜ r ≡ encodeCall opcode a b c w ⌝ }
 {
-    isa::encode(instr_of(opcode, a, b, c, w))
+    isa::encode_fields(opcode, a, b, c, w)
 }
 
 // A step is a run with limit 1.
@@ -192,23 +190,6 @@ fn technique_of(number: u8) -> Technique
         Technique::Plain
     } else {
         Technique::MemoryGuards
-    }
-}
-
-fn instr_of(opcode: u8, a: u8, b: u8, c: u8, w: u32) -> Instr
-    ensures { λ r. ⌜ r ≡ instrOf (fields (kindOf opcode) a b c w) ⌝ }
-{
-    match opcode {
-        0 => Instr::Label(w),
-        1 => Instr::Add(a, b, c),
-        2 => Instr::Addi(a, b, w),
-        3 => Instr::Movi(a, w),
-        4 => Instr::Bgt(a, b, w),
-        5 => Instr::Jd(w),
-        6 => Instr::Jmp(a),
-        7 => Instr::Ld(a, b, w),
-        8 => Instr::St(a, b, w),
-        _ => Instr::Illegal,
     }
 }
 

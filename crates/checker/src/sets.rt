@@ -44,7 +44,7 @@ pub(crate) fn first_overlap(edges: &[u16], n: usize, id: &[u16; 2048], own: &[u1
     if u == n {
         return n;
     }
-    first_beside_uneven(edges, n, id, own, &size, &last, &next)
+    first_beside_uneven(edges, n, id, own, &mut size, &last, &next)
 }
 
 fn class_of(t: usize, owner: u16, n: usize) -> usize
@@ -170,13 +170,13 @@ fn first_uneven(
     j
 }
 
-// The lowest jump that shares a target with an uneven one, or n.
+// The lowest jump that shares a target with an uneven one, or n. The array of sizes has served then, and takes the tainted targets.
 fn first_beside_uneven(
     edges: &[u16],
     n: usize,
     id: &[u16; 2048],
     own: &[u16; 2048],
-    size: &[u16; 2048],
+    size: &mut [u16; 2048],
     last: &[u16; 2048],
     next: &[u16; 2048],
 ) -> usize
@@ -184,10 +184,10 @@ fn first_beside_uneven(
     ensures { λ r. ⌜ r ≡ lowest (suspect (now (edges .entry)) n (edgeCount (now (edges .entry)))) n ⌝ }
 {
     let mut flags = [0u16; 2048];
-    flag_uneven(edges, n, id, own, size, last, next, &mut flags);
-    let mut tainted = [0u16; 2048];
-    taint_targets(edges, n, &flags, &mut tainted);
-    first_with_taint(edges, n, &tainted)
+    flag_uneven(edges, n, id, own, &*size, last, next, &mut flags);
+    fill(size, n, 0);
+    taint_targets(edges, n, &flags, size);
+    first_with_taint(edges, n, &*size)
 }
 
 fn flag(b: bool) -> u16

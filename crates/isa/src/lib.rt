@@ -2,7 +2,7 @@
 ghost use mathlib.Core.Path.{_≡_};
 ghost use mathlib.Core.Bool.{cond, _&&_};
 ghost use Rattle.isa.specs.Instructions.{isIllegal, isKind};
-ghost use Rattle.isa.specs.Words.{kindOf, opcodeOf, namedBy, registerOk, immediateOk, known, exact, fields, pack, allBitsSet, decodeOf, wordOf, encodeOf};
+ghost use Rattle.isa.specs.Words.{kindOf, opcodeOf, namedBy, registerOk, immediateOk, known, exact, fields, pack, instrOf, allBitsSet, decodeOf, wordOf, encodeOf};
 use lists::both;
 
 pub enum Instr {
@@ -62,6 +62,26 @@ pub fn encode(i: Instr) -> u64
         Instr::Ld(rd, rs, w) => word_of(Kind::Ld, rd, rs, 0, w),
         Instr::St(rd, rs, w) => word_of(Kind::St, rd, rs, 0, w),
         Instr::Illegal => 0xffff_ffff_ffff_ffff,
+    }
+}
+
+// The word of the instruction that an opcode and fields say; a byte that is no opcode says Illegal, and fields that the
+// instruction does not name are passed over.
+pub fn encode_fields(opcode: u8, a: u8, b: u8, c: u8, w: u32) -> u64
+    ensures { λ r. ⌜ r ≡ encodeOf (instrOf (fields (kindOf opcode) a b c w)) ⌝ }
+{
+    let kind = kind_at(opcode);
+    match kind {
+        Kind::Label => word_of(Kind::Label, 0, 0, 0, w),
+        Kind::Add => word_of(Kind::Add, a, b, c, 0),
+        Kind::Addi => word_of(Kind::Addi, a, b, 0, w),
+        Kind::Movi => word_of(Kind::Movi, a, 0, 0, w),
+        Kind::Bgt => word_of(Kind::Bgt, a, b, 0, w),
+        Kind::Jd => word_of(Kind::Jd, 0, 0, 0, w),
+        Kind::Jmp => word_of(Kind::Jmp, a, 0, 0, 0),
+        Kind::Ld => word_of(Kind::Ld, a, b, 0, w),
+        Kind::St => word_of(Kind::St, a, b, 0, w),
+        Kind::Unknown => 0xffff_ffff_ffff_ffff,
     }
 }
 
