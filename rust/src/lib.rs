@@ -154,27 +154,31 @@ impl Refusal {
         self as u32
     }
 
+    /// Every refusal, in the sequence of the numbers.
+    pub const ALL: [Refusal; 17] = [
+        Refusal::CountMissing,
+        Refusal::CountLimit,
+        Refusal::ItemsMissing,
+        Refusal::TrailingBytes,
+        Refusal::PlaceTooShort,
+        Refusal::Shape,
+        Refusal::EdgeFromNoJump,
+        Refusal::TargetOutsideCode,
+        Refusal::JumpWithoutEdge,
+        Refusal::TargetSetsOverlap,
+        Refusal::LastWordLegal,
+        Refusal::LabelCondition,
+        Refusal::StoreUnguarded,
+        Refusal::JumpUnguarded,
+        Refusal::BranchTarget,
+        Refusal::NotData,
+        Refusal::NotRegister,
+    ];
+
+    /// The refusal of a number that the library answers: 1 to 17.
     #[inline]
     fn of(number: u32) -> Refusal {
-        match number {
-            1 => Refusal::CountMissing,
-            2 => Refusal::CountLimit,
-            3 => Refusal::ItemsMissing,
-            4 => Refusal::TrailingBytes,
-            5 => Refusal::PlaceTooShort,
-            6 => Refusal::Shape,
-            7 => Refusal::EdgeFromNoJump,
-            8 => Refusal::TargetOutsideCode,
-            9 => Refusal::JumpWithoutEdge,
-            10 => Refusal::TargetSetsOverlap,
-            11 => Refusal::LastWordLegal,
-            12 => Refusal::LabelCondition,
-            13 => Refusal::StoreUnguarded,
-            14 => Refusal::JumpUnguarded,
-            15 => Refusal::BranchTarget,
-            16 => Refusal::NotData,
-            _ => Refusal::NotRegister,
-        }
+        Refusal::ALL[(number as usize).clamp(1, Refusal::ALL.len()) - 1]
     }
 }
 

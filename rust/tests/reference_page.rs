@@ -1,7 +1,7 @@
 //! docs/REFERENCE.md against what it tells of: the programs shown are the examples and are accepted as the page says, the table of
 //! numbers has every number under the header's name, and the definitions that the page names are there. Every example gets the
 //! verdicts that were worked out by hand.
-use post_guard::{Place, Program, Refusal::*, Technique, Verdict};
+use post_guard::{Place, Program, Refusal, Refusal::*, Technique, Verdict};
 use std::fs;
 use std::path::{Path, PathBuf};
 
@@ -142,7 +142,9 @@ fn rows(heading: &str) -> Vec<(u32, String)> {
 #[test]
 fn every_number_has_a_row_under_its_name() {
     let header = text_of("include/post_guard.h");
-    for (heading, last) in [("## Numbers", 17), ("## Steps and stops", 4)] {
+    let last_refusal = Refusal::ALL.len() as u32;
+    assert_eq!(Refusal::ALL.map(Refusal::number).to_vec(), (1..=last_refusal).collect::<Vec<_>>(), "Refusal::ALL");
+    for (heading, last) in [("## Numbers", last_refusal), ("## Steps and stops", 4)] {
         let rows = rows(heading);
         assert_eq!(rows.iter().map(|row| row.0).collect::<Vec<_>>(), (1..=last).collect::<Vec<_>>(), "{heading}");
         for (number, name) in rows {
