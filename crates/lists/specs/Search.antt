@@ -1,6 +1,6 @@
 -- Searches over the numbers below a bound: the first place that a test holds at, whether there is one, and how many.
-use Prim.Native.Nat.{ℕ, zero, suc}
-use mathlib.Core.Bool.{Bool, false, cond, _||_}
+use Prim.Native.Nat.{ℕ, zero, suc, _+_}
+use mathlib.Core.Bool.{Bool, true, false, cond, _||_}
 use lib.Dec.{ltb}
 
 -- the lowest number below n that passes the test, or n where none does
@@ -12,3 +12,13 @@ lowest test (suc n) = cond (ltb (lowest test n) n) (lowest test n) (cond (test n
 unfoldable pub any : (ℕ → Bool) → ℕ → Bool
 any test zero = false
 any test (suc n) = test n || any test n
+
+-- a flag: 1 where the test holds
+abbrev pub bit : Bool → ℕ
+bit true = 1
+bit false = 0
+
+-- how many numbers below n pass the test
+unfoldable pub count : (ℕ → Bool) → ℕ → ℕ
+count test zero = 0
+count test (suc n) = bit (test n) + count test n

@@ -8,3 +8,4 @@ pub mod ReaderAnswers
 pub mod RoundTrips
 pub mod Calls
 pub mod Front
+pub mod Places

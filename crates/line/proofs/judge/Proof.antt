@@ -1,7 +1,8 @@
 -- `line::judge` meets its contract: what the reader ensures, handed to the laws of places of 4,096.
 use mathlib.Core.Path.{refl, sym, _∙_}
 use borrow.Author.Needs.{needs}
-use Rattle.line.proofs.Places.{judge-refused, judge-read, memory-room, edges-room}
+use Rattle.parcel.proofs.Places.{memory-room, edges-room}
+use Rattle.line.proofs.Places.{judge-refused, judge-read}
 use Rattle.line.proofs.judge.Statement.{statement}
 use Rattle.line.proofs.judge.Tie as tie
 
