@@ -28,6 +28,14 @@ of-kind k i h =
 pub legal-fields : (x : ℕ) → exact (split x) ≡ true → fieldsOf (decodeOf x) ≡ split x
 legal-fields x e = ap fieldsOf (decode-exact x (split x) refl e) ∙ exact-back (split x) e
 
+-- the kind of what a word decodes to: its own, or none of the table where it is no exact form
+pub legal-kind : (x : ℕ) → exact (split x) ≡ true → split x .kind ≡ fieldsOf (decodeOf x) .kind
+legal-kind x e = sym (ap (λ (f : Fields). f .kind) (legal-fields x e))
+
+pub unknown-kind : (x : ℕ) → exact (split x) ≡ false → Kind.Unknown ≡ fieldsOf (decodeOf x) .kind
+unfolding decodeOf
+unknown-kind x e = sym (ap (λ (b : Bool). fieldsOf (cond b (instrOf (split x)) Instr.Illegal) .kind) e)
+
 -- a word is illegal precisely where it is no exact form
 pub illegal-exact : (x : ℕ) → not (exact (split x)) ≡ isIllegal (decodeOf x)
 unfolding decodeOf

@@ -1,2 +1,3 @@
 pub mod Words
 pub mod ByKind
+pub mod Masks

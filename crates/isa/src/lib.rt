@@ -2,7 +2,8 @@
 ghost use mathlib.Core.Path.{_≡_};
 ghost use mathlib.Core.Bool.{cond, _&&_};
 ghost use Rattle.isa.specs.Instructions.{isIllegal, isKind};
-ghost use Rattle.isa.specs.Words.{kindOf, opcodeOf, namedBy, registerOk, immediateOk, known, exact, fields, pack, instrOf, allBitsSet, decodeOf, wordOf, encodeOf};
+ghost use Rattle.isa.specs.Words.{kindOf, opcodeOf, namedBy, registerOk, immediateOk, known, exact, fields, pack, instrOf, fieldsOf, allBitsSet, decodeOf, wordOf, encodeOf};
+ghost use Rattle.isa.specs.Inside.{clearOf};
 use lists::both;
 
 pub enum Instr {
@@ -112,6 +113,17 @@ pub fn is_a(kind: Kind, word: u64) -> bool
     )
 }
 
+// The kind of a word, without decoding the rest of it: Unknown where the word is illegal.
+pub fn kind_of_word(word: u64) -> Kind
+    ensures { λ r. ⌜ r ≡ fieldsOf (decodeOf word) .kind ⌝ }
+{
+    let kind = kind_at((word / 0x100_0000_0000_0000) as u8);
+    if word & clear_of(kind) == 0 {
+        return kind;
+    }
+    Kind::Unknown
+}
+
 pub enum Kind {
     Label,
     Add,
@@ -173,6 +185,24 @@ fn opcode_of(kind: Kind) -> u8
         Kind::Ld => 7,
         Kind::St => 8,
         Kind::Unknown => 255,
+    }
+}
+
+// The bits that are 0 in a word of a kind: fields that it does not name, and the three high bits of registers.
+fn clear_of(kind: Kind) -> u64
+    ensures { λ r. ⌜ r ≡ clearOf (namedBy kind) ⌝ }
+{
+    match kind {
+        Kind::Label => 0x00ff_ffff_0000_0000,
+        Kind::Add => 0x00e0_e0e0_ffff_ffff,
+        Kind::Addi => 0x00e0_e0ff_0000_0000,
+        Kind::Movi => 0x00e0_ffff_0000_0000,
+        Kind::Bgt => 0x00e0_e0ff_0000_0000,
+        Kind::Jd => 0x00ff_ffff_0000_0000,
+        Kind::Jmp => 0x00e0_ffff_ffff_ffff,
+        Kind::Ld => 0x00e0_e0ff_0000_0000,
+        Kind::St => 0x00e0_e0ff_0000_0000,
+        Kind::Unknown => 0x00ff_ffff_ffff_ffff,
     }
 }
 
