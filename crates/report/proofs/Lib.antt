@@ -1,0 +1,6 @@
+pub mod Held
+pub mod ByKind
+pub mod Sets
+pub mod Reports
+pub mod Bounds
+pub mod Examples

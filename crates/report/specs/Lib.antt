@@ -1,0 +1,5 @@
+pub mod Figures
+pub mod Reports
+pub mod Theorems
+pub mod Examples
+pub mod Inside
