@@ -13,7 +13,7 @@ use Rattle.lists.specs.Search.{any, bit, count}
 use Rattle.lists.specs.Tables.{Table}
 use Rattle.lists.proofs.Bools.{clash, same-bool, true-false, refuted}
 use Rattle.lists.proofs.Search.{any-ext, any-clean, any-none, lowest-ext}
-use Rattle.lists.proofs.Counts.{count-ext, count-zero}
+use Rattle.lists.proofs.Counts.{count-none, count-more, count-ext, count-zero}
 use Rattle.lists.proofs.Tables.{table-set, table-as}
 use Rattle.isa.specs.declared.Kind.{Kind}
 use Rattle.isa.specs.Instructions.{instrAt, isJump}
@@ -22,28 +22,28 @@ use Rattle.graph.specs.Rules.{setsDiffer}
 use Rattle.graph.specs.Passes.{classOf, classSize}
 use Rattle.graph.proofs.Edges.{has-edge, id-below}
 use Rattle.report.specs.declared.Freedom.{Freedom}
-use Rattle.report.specs.declared.passes.Sums.{Sums}
+use Rattle.report.specs.declared.passes.Tally.{Tally}
 use Rattle.report.specs.Figures.{wordsOfKind, kindsOf, freedomBy, setSize, isNewSet, setsOf, highest, total, largestOf, distinctEdges, figuresOf}
-use Rattle.report.specs.Inside.{labelAt, classAt, numberAt, isNew, sizeBy, sizeAt, figuresRead, Readable, Held, Summed, marksOf, Marked}
+use Rattle.report.specs.Inside.{labelAt, classAt, numberAt, isNew, sizeBy, sizeAt, figuresRead, Readable, Held, marksOf, Marked, Tallied}
 
 any-more : (f : ℕ → Bool) (k : ℕ) → any f (k + 1) ≡ (f k || any f k)
 unfolding any
 any-more f k = rw add-one
 
 -- sums and highest numbers, one more at a time
-pub total-none : (f : ℕ → ℕ) → 0 ≡ total f 0
+total-none : (f : ℕ → ℕ) → 0 ≡ total f 0
 unfolding total
 total-none f = refl
 
-pub total-more : (f : ℕ → ℕ) (k : ℕ) → total f (k + 1) ≡ f k + total f k
+total-more : (f : ℕ → ℕ) (k : ℕ) → total f (k + 1) ≡ f k + total f k
 unfolding total
 total-more f k = rw add-one
 
-pub highest-none : (f : ℕ → ℕ) → 0 ≡ highest f 0
+highest-none : (f : ℕ → ℕ) → 0 ≡ highest f 0
 unfolding highest
 highest-none f = refl
 
-pub highest-more : (f : ℕ → ℕ) (k : ℕ) → highest f (k + 1) ≡ max (f k) (highest f k)
+highest-more : (f : ℕ → ℕ) (k : ℕ) → highest f (k + 1) ≡ max (f k) (highest f k)
 unfolding highest
 highest-more f k = rw add-one
 
@@ -58,7 +58,7 @@ highest-ext f g zero h = refl
 highest-ext f g (suc n) h = rw (highest-ext f g n (λ k l. h k (omega arith)), h n (omega arith))
 
 -- marks: whether a number is new, and one mark more
-pub marks-none : (f : ℕ → ℕ) (s : ℕ) → 0 ≡ marksOf f 0 s
+marks-none : (f : ℕ → ℕ) (s : ℕ) → 0 ≡ marksOf f 0 s
 unfolding any
 marks-none f s = refl
 
@@ -68,7 +68,7 @@ module _ (f : ℕ → ℕ) (marks : List ℕ) (n j x : ℕ) (h : Table marks n (
       ap bit (any-more (λ i. eqb (f i) (s + 1)) j)
       ∙ ap (λ (z : ℕ). bit (eqb z (s + 1) || any (λ i. eqb (f i) (s + 1)) j)) (sym ex)
 
-  pub marks-step : {r : ℕ} {marks′ : List ℕ} → Marked x marks r marks′ → Table marks′ n (marksOf f (j + 1))
+  marks-step : {r : ℕ} {marks′ : List ℕ} → Marked x marks r marks′ → Table marks′ n (marksOf f (j + 1))
   marks-step {r} {marks′} m = rw (m .marks-after) (go (ℕ-discrete x 0))
     where
       go : Dec (x ≡ 0) → Table (cond (eqb x 0) marks (set marks (x - 1) 1)) n (marksOf f (j + 1))
@@ -81,7 +81,7 @@ module _ (f : ℕ → ℕ) (marks : List ℕ) (n j x : ℕ) (h : Table marks n (
           (sym (marks-more (x - 1) ∙ rw (eq-eqb x (x - 1 + 1) (omega arith))))
           (λ s l ne. sym (marks-more s ∙ rw (ne-eqb x (s + 1) (λ e. ne (omega arith))))))
 
-  pub mark-new : {r : ℕ} {marks′ : List ℕ} → Marked x marks r marks′ → r ≡ bit (isNew f j)
+  mark-new : {r : ℕ} {marks′ : List ℕ} → Marked x marks r marks′ → r ≡ bit (isNew f j)
   mark-new {r} {marks′} m = m .fresh ∙ go (ℕ-discrete x 0) ∙ ap (λ (z : ℕ). bit (not (eqb z 0) && not (any (λ i. eqb (f i) z) j))) ex
     where
       flip : (b : Bool) → cond (eqb (bit b) 0) 1 0 ≡ bit (not b)
@@ -96,7 +96,7 @@ module _ (f : ℕ → ℕ) (marks : List ℕ) (n j x : ℕ) (h : Table marks n (
           rw (ne-eqb x 0 p, h .each (x - 1) (omega arith), back) (flip (any (λ i. eqb (f i) x) j))
 
 -- the size by the array is that of the jump's set
-pub size-at : (memory : List ℕ) (n : ℕ) (size : List ℕ) (j x : ℕ) → Table size n (classSize (labelAt memory n) n n) → x ≡ numberAt memory j → x ≤ n
+size-at : (memory : List ℕ) (n : ℕ) (size : List ℕ) (j x : ℕ) → Table size n (classSize (labelAt memory n) n n) → x ≡ numberAt memory j → x ≤ n
     → sizeBy size x ≡ sizeAt memory n j
 size-at memory n size j x h e l = go (ℕ-discrete x 0) ∙ ap (λ (y : ℕ). cond (eqb y 0) 0 (classSize (labelAt memory n) n n (y - 1))) e
   where
@@ -104,15 +104,45 @@ size-at memory n size j x h e l = go (ℕ-discrete x 0) ∙ ap (λ (y : ℕ). co
     go (yes p) = rw (eq-eqb x 0 p)
     go (no p) = rw (ne-eqb x 0 p) (h .each (x - 1) (omega arith))
 
--- all figures, from what the passes answer
-pub figures-read : (memory : List ℕ) (n : ℕ) {kinds : List ℕ} {sets : ℕ} {sums : Sums} {freedom : Freedom} → kinds ≡ kindsOf memory n
-    → sets ≡ count (isNew (numberAt memory)) n → Summed memory n sums → freedom ≡ freedomBy (getD kinds 6 0) n (sums .edges)
-    → record { kinds = kinds; sets = sets; largest = sums .largest; freedom = freedom } ≡ figuresRead memory n
-figures-read memory n {kinds} {sets} {sums} {freedom} k s su f =
+-- the tally of no words, of one word more, and all figures from the tally of all words
+pub tally-none : (memory : List ℕ) (n : ℕ) {marks : List ℕ} → Table marks n (λ _. 0)
+    → Tallied memory n 0 (record { edges = 0; largest = 0; sets = 0 }) marks
+tally-none memory n h =
+    record {
+      edges = total-none _;
+      edges-fit = omega arith;
+      largest = highest-none _;
+      sets = count-none _;
+      marked = table-as _ h (λ s l. marks-none (numberAt memory) s);
+    }
+
+module _ (memory : List ℕ) (n j : ℕ) {before : Tally} {marks marks′ : List ℕ} {x new : ℕ} (limit : n ≤ 2048)
+    (h : Tallied memory n j before marks) (ex : x ≡ numberAt memory j) (small : x ≤ n) (m : Marked x marks new marks′) where
+  pub sets-more : before .sets + new ≡ count (isNew (numberAt memory)) (j + 1)
+  sets-more =
+      omega (arith, mark-new (numberAt memory) marks n j x (h .marked) ex small limit m, count-more (isNew (numberAt memory)) j, h .sets)
+
+  pub tally-more : {size : List ℕ} {v largest : ℕ} → Table size n (classSize (labelAt memory n) n n) → v ≡ sizeBy size x → v ≤ 65535
+      → largest ≡ max v (before .largest)
+      → Tallied memory n (j + 1) (record { edges = before .edges + v; largest = largest; sets = before .sets + new }) marks′
+  tally-more {size} {v} t e fit l =
+      let its : v ≡ sizeAt memory n j = e ∙ size-at memory n size j x t ex small in
+      record {
+        edges = omega (arith, h .edges, its, total-more (sizeAt memory n) j);
+        edges-fit = omega (arith, h .edges-fit);
+        largest = l ∙ ap₂ max its (h .largest) ∙ sym (highest-more (sizeAt memory n) j);
+        sets = sets-more;
+        marked = marks-step (numberAt memory) marks n j x (h .marked) ex small limit m;
+      }
+
+pub figures-read : (memory : List ℕ) (n : ℕ) {kinds marks : List ℕ} {tally : Tally} {freedom : Freedom} → kinds ≡ kindsOf memory n
+    → Tallied memory n n tally marks → freedom ≡ freedomBy (getD kinds 6 0) n (tally .edges)
+    → record { kinds = kinds; sets = tally .sets; largest = tally .largest; freedom = freedom } ≡ figuresRead memory n
+figures-read memory n {kinds} {marks} {tally} {freedom} k t f =
     let jumps : getD kinds 6 0 ≡ wordsOfKind memory n Kind.Jmp = ap (λ (xs : List ℕ). getD xs 6 0) k in
     let same : freedom ≡ freedomBy (wordsOfKind memory n Kind.Jmp) n (total (sizeAt memory n) n) =
-    f ∙ ap₂ (λ (j e : ℕ). freedomBy j n e) jumps (su .edges) in
-    rw (k, s, su .largest, same)
+    f ∙ ap₂ (λ (j e : ℕ). freedomBy j n e) jumps (t .edges) in
+    rw (k, t .sets, t .largest, same)
 
 -- one more than the ID of a jump, 0 where j is none
 abbrev setNumber : List ℕ → ℕ → ℕ → ℕ

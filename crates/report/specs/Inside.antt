@@ -1,5 +1,5 @@
 -- What the private passes of this crate leave in their arrays and rely on. Nothing that is promised outside cites these.
-use Prim.Native.Nat.{ℕ, _+_, _-_, _%_, _^_, _<_, _≤_}
+use Prim.Native.Nat.{ℕ, _+_, _-_, _*_, _%_, _^_, _<_, _≤_}
 use mathlib.Core.Path.{_≡_}
 use mathlib.Core.Bool.{Bool, true, not, cond, _&&_}
 use mathlib.Core.Option.{Option, none, some}
@@ -7,11 +7,12 @@ use mathlib.Core.List.{List}
 use lib.ListN.{getD, set}
 use lib.Dec.{eqb}
 use Rattle.lists.specs.Search.{any, bit, count}
+use Rattle.lists.specs.Tables.{Table}
 use Rattle.isa.specs.declared.Kind.{Kind}
 use Rattle.isa.specs.Instructions.{instrAt, isJump, labelNumber}
 use Rattle.graph.specs.Claim.{isEdge, hasEdge, idOf}
 use Rattle.graph.specs.Passes.{Sized, Within, classOf, classSize}
-use Rattle.report.specs.declared.passes.Sums.{Sums}
+use Rattle.report.specs.declared.passes.Tally.{Tally}
 use Rattle.report.specs.declared.Figures.{Figures}
 use Rattle.report.specs.Figures.{wordsOfKind, kindsOf, highest, total, freedomBy}
 
@@ -81,11 +82,6 @@ pub record Held (memory : List ℕ) (n : ℕ) (edges : List ℕ) : Type 0 where
   pub ids : (j : ℕ) → j < n → isJump (instrAt memory j) ≡ true → getD memory (j - 3) 0 % 2 ^ 32 ≡ idOf edges n j
   pub classes : (j t : ℕ) → hasEdge edges j ≡ true → t < n → isEdge edges j t ≡ eqb (classAt memory n t) (idOf edges n j)
 
--- the sum and the highest of the sizes
-pub record Summed (memory : List ℕ) (n : ℕ) (r : Sums) : Type 0 where
-  pub edges : r .edges ≡ total (sizeAt memory n) n
-  pub largest : r .largest ≡ highest (sizeAt memory n) n
-
 -- the marks of the first j numbers of f: 1 at s where s + 1 is among them
 abbrev pub marksOf : (ℕ → ℕ) → ℕ → ℕ → ℕ
 marksOf f j s = bit (any (λ i. eqb (f i) (s + 1)) j)
@@ -94,3 +90,12 @@ marksOf f j s = bit (any (λ i. eqb (f i) (s + 1)) j)
 pub record Marked (x : ℕ) (marks : List ℕ) (r : ℕ) (marks′ : List ℕ) : Type 0 where
   pub fresh : r ≡ cond (eqb x 0) 0 (cond (eqb (getD marks (x - 1) 0) 0) 1 0)
   pub marks-after : marks′ ≡ cond (eqb x 0) marks (set marks (x - 1) 1)
+
+-- the tally of the words before j: the sum and the highest of the sizes of their jumps' sets, how many sets those are, and the marks
+-- of those
+pub record Tallied (memory : List ℕ) (n j : ℕ) (r : Tally) (marks : List ℕ) : Type 0 where
+  pub edges : r .edges ≡ total (sizeAt memory n) j
+  pub edges-fit : r .edges ≤ j * 65535
+  pub largest : r .largest ≡ highest (sizeAt memory n) j
+  pub sets : r .sets ≡ count (isNew (numberAt memory)) j
+  pub marked : Table marks n (marksOf (numberAt memory) j)

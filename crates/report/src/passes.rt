@@ -6,55 +6,90 @@ ghost use mathlib.Core.Bool.{cond};
 ghost use Prim.Native.Nat.{max, _+_, _<_, _≤_};
 ghost use lib.Dec.{eqb};
 ghost use lib.ListN.{length, getD};
-ghost use Rattle.lists.specs.Search.{count};
 ghost use Rattle.lists.specs.Tables.{Table};
 ghost use Rattle.isa.specs.Words.{decodeOf};
 ghost use Rattle.isa.specs.Instructions.{labelNumber};
 ghost use Rattle.graph.specs.Passes.{Sized, Is, classSize};
 ghost use Rattle.report.specs.Figures.{kindsOf, freedomBy};
-ghost use Rattle.report.specs.Inside.{rowOf, labelAt, classAt, numberAt, isNew, sizeBy, Readable, Summed, Marked, figuresRead};
+ghost use Rattle.report.specs.Inside.{rowOf, labelAt, classAt, numberAt, sizeBy, Readable, Tallied, Marked, figuresRead};
 use crate::Figures;
 use crate::Freedom;
 use isa::Kind;
 use isa::is_a;
 use isa::kind_of_word;
 
-struct Sums {
+// What the words looked at tell of the jumps: their edges, the size of their largest target set, and how many sets they have.
+struct Tally {
     edges: u32,
     largest: u16,
+    sets: u16,
 }
 
 pub(crate) fn figures(memory: &[u64], n: usize) -> Figures
     requires { ⌜ Readable (now memory) n ⌝ }
     ensures { λ r. ⌜ r ≡ figuresRead (now (memory .entry)) n ⌝ }
 {
-    let kinds = count_kinds(memory, n);
     let mut size = [0u16; 2048];
     class_sizes(memory, n, &mut size);
-    let sums = sum_sizes(memory, n, &size);
-    let sets = count_sets(memory, n, &mut size);
-    let freedom = freedom_of(kinds[6], n, sums.edges);
+    count_words(memory, n, &size)
+}
+
+fn count_words(memory: &[u64], n: usize, size: &[u16; 2048]) -> Figures
+    requires { ⌜ Readable (now memory) n × Table (now size) n (classSize (labelAt (now memory) n) n n) ⌝ }
+    ensures { λ r. ⌜ r ≡ figuresRead (now (memory .entry)) n ⌝ }
+{
+    let mut kinds = [0u16; 10];
+    let mut marks = [0u16; 2048];
+    let mut tally = Tally {
+        edges: 0,
+        largest: 0,
+        sets: 0,
+    };
+    let mut a = 0;
+    while a < n {
+        count_kind(&mut kinds, memory, n, a);
+        tally = tally_jump(tally, memory, n, a, size, &mut marks);
+        a += 1;
+    }
+    let freedom = freedom_of(kinds[6], n, tally.edges);
     Figures {
         kinds: kinds,
-        sets: sets,
-        largest: sums.largest,
+        sets: tally.sets,
+        largest: tally.largest,
         freedom: freedom,
     }
 }
 
-fn count_kinds(memory: &[u64], n: usize) -> [u16; 10]
-    requires { ⌜ Sized (now memory) n ⌝ }
-    ensures { λ r. ⌜ r ≡ kindsOf (now (memory .entry)) n ⌝ }
+// Counts the word at a, after those before it.
+fn count_kind(kinds: &mut [u16; 10], memory: &[u64], n: usize, a: usize)
+    requires { ⌜ Sized (now memory) n × (a < n) × (now kinds ≡ kindsOf (now memory) a) ⌝ }
+    ensures { λ _. ⌜ now (kinds .exit) ≡ kindsOf (now (memory .entry)) (a + 1) ⌝ }
 {
-    let mut kinds = [0u16; 10];
-    let mut a = 0;
-    while a < n {
-        let row = row_of(kind_of_word(memory[a]));
-        let v = kinds[row] + 1;
-        kinds[row] = v;
-        a += 1;
+    let row = row_of(kind_of_word(memory[a]));
+    let v = kinds[row] + 1;
+    kinds[row] = v;
+}
+
+// Adds the jump at j, if there is one, to the tally of the words before it.
+fn tally_jump(
+    before: Tally,
+    memory: &[u64],
+    n: usize,
+    j: usize,
+    size: &[u16; 2048],
+    marks: &mut [u16; 2048],
+) -> Tally
+    requires { ⌜ Readable (now memory) n × (j < n) × Table (now size) n (classSize (labelAt (now memory) n) n n) × Tallied (now memory) n j before (now marks) ⌝ }
+    ensures { λ r. ⌜ Tallied (now (memory .entry)) n (j + 1) r (now (marks .exit)) ⌝ }
+{
+    let x = set_number(memory, n, j);
+    let v = size_by(size, x);
+    let new = mark(marks, x);
+    Tally {
+        edges: before.edges + v as u32,
+        largest: higher(v, before.largest),
+        sets: before.sets + new,
     }
-    kinds
 }
 
 fn row_of(kind: Kind) -> usize
@@ -114,33 +149,6 @@ fn set_number(memory: &[u64], n: usize, j: usize) -> usize
     0
 }
 
-// How many jumps have a set that no earlier one has. The array of sizes has served then, and takes the marks.
-fn count_sets(memory: &[u64], n: usize, marks: &mut [u16; 2048]) -> u16
-    requires { ⌜ Readable (now memory) n × (length (now marks) ≡ 2048) ⌝ }
-    ensures { λ r. ⌜ r ≡ count (isNew (numberAt (now (memory .entry)))) n ⌝ }
-{
-    clear(marks, n);
-    let mut sets = 0u16;
-    let mut j = 0;
-    while j < n {
-        let new = mark(marks, set_number(memory, n, j));
-        sets = sets + new;
-        j += 1;
-    }
-    sets
-}
-
-fn clear(xs: &mut [u16; 2048], n: usize)
-    requires { ⌜ (n ≤ 2048) × (length (now xs) ≡ 2048) ⌝ }
-    ensures { λ _. ⌜ Table (now (xs .exit)) n (λ _. 0) ⌝ }
-{
-    let mut a = 0;
-    while a < n {
-        xs[a] = 0;
-        a += 1;
-    }
-}
-
 // Marks the number x, unless it is 0, and answers whether it had no mark before.
 fn mark(marks: &mut [u16; 2048], x: usize) -> u16
     requires { ⌜ (x ≤ 2048) × (length (now marks) ≡ 2048) ⌝ }
@@ -153,26 +161,6 @@ fn mark(marks: &mut [u16; 2048], x: usize) -> u16
     let old = marks[s];
     marks[s] = 1;
     if old == 0 { 1 } else { 0 }
-}
-
-// The sum and the highest of the sizes of the jumps' sets.
-fn sum_sizes(memory: &[u64], n: usize, size: &[u16; 2048]) -> Sums
-    requires { ⌜ Readable (now memory) n × Table (now size) n (classSize (labelAt (now memory) n) n n) ⌝ }
-    ensures { λ r. ⌜ Summed (now (memory .entry)) n r ⌝ }
-{
-    let mut edges = 0u32;
-    let mut largest = 0u16;
-    let mut j = 0;
-    while j < n {
-        let v = size_by(size, set_number(memory, n, j));
-        edges = edges + v as u32;
-        largest = higher(v, largest);
-        j += 1;
-    }
-    Sums {
-        edges: edges,
-        largest: largest,
-    }
 }
 
 fn size_by(size: &[u16; 2048], x: usize) -> u16
