@@ -10,12 +10,14 @@
  *   aligned for its type and points to that many elements; places of one call do not overlap unless all are const. That is
  *   all a caller owes: every number is allowed everywhere.
  * - A call changes nothing but what its comment says, and nothing in a place past what it puts there. Where a call is
- *   refused, nothing is changed but what it reports: the count of pg_run (with PG_SHAPE) and the place of pg_check.
+ *   refused, nothing is changed but what it reports: the count of pg_run (with PG_SHAPE), and the place of pg_check,
+ *   pg_report, pg_report_parcel, pg_add_report and pg_add_parcel. The last two also count the refused parcel in totals[0].
  * - Calls keep nothing between them and may run at the same time on different places.
  *
  * A state is PG_STATE_WORDS words: r0 to r31, then the pc. Only those of the place are read or written.
  * Memory is n words of code and, directly after them, D words of data; memory_len is n + D.
  * Edges are pairs of numbers: a jump's address, then a target.
+ * Figures are PG_FIGURES numbers and totals PG_TOTALS numbers, as pg_report and pg_add_report say.
  * A technique is PG_PLAIN, or PG_MEMORY_GUARDS (any number but 0 means that one). */
 #ifndef POST_GUARD_H
 #define POST_GUARD_H
@@ -36,6 +38,21 @@ extern "C" {
 #define PG_MAX_EDGES 2048
 /* the bytes of the longest parcel */
 #define PG_MAX_PARCEL 40972
+/* figures of a program, and totals over many: how many numbers, and where each stands (the words of a kind stand at its
+ * opcode, those of illegal words at PG_FIGURE_ILLEGAL) */
+#define PG_FIGURES 14
+#define PG_FIGURE_ILLEGAL 9
+#define PG_FIGURE_SETS 10
+#define PG_FIGURE_LARGEST 11
+#define PG_FIGURE_EDGES 12
+#define PG_FIGURE_POSSIBLE 13
+#define PG_TOTALS 6
+#define PG_TOTAL_PARCELS 0
+#define PG_TOTAL_EDGES 1
+#define PG_TOTAL_POSSIBLE 2
+#define PG_TOTAL_LARGEST 3
+#define PG_TOTAL_LARGEST_EDGES 4
+#define PG_TOTAL_LARGEST_POSSIBLE 5
 
 /* What calls answer. 0 is success. */
 #define PG_OK 0
@@ -46,7 +63,9 @@ extern "C" {
 #define PG_STOP_ACCESS 3  /* a load outside memory, or a store outside data (plain) or outside memory */
 #define PG_STOP_NEXT 4    /* plain only: the next pc is outside code */
 
-/* Refusals: why a call is turned away. 1 to 4 come from pg_read_parcel alone, 7 to 15 from pg_check alone. */
+/* Refusals: why a call is turned away. 1 to 4 come from the calls that read a parcel (pg_read_parcel, pg_report_parcel and
+ * pg_add_parcel), 7 to 15 from those that check a program (pg_check, pg_report, pg_add_report, pg_report_parcel and
+ * pg_add_parcel). */
 #define PG_COUNT_MISSING 1       /* fewer than four bytes are left for a count */
 #define PG_COUNT_LIMIT 2         /* a count breaks its section's limits */
 #define PG_ITEMS_MISSING 3       /* the bytes for a section's items are not all there */
@@ -64,6 +83,10 @@ extern "C" {
 #define PG_BRANCH_TARGET 15      /* this bgt or jd breaks the target condition */
 #define PG_NOT_DATA 16           /* a bus write names an address outside data */
 #define PG_NOT_REGISTER 17       /* a bus write names a register outside r3 to r31 */
+
+/* What else became of a parcel that was to be added to totals. pg_add_report and pg_add_parcel answer them. */
+#define PG_WITHOUT_JUMPS 256 /* accepted, but without jumps: passed over */
+#define PG_UNCHANGED 257     /* the totals are as they were: they are full, a sum would pass 64 bits, or they are no totals */
 
 /* Opcodes, as pg_decode gives them and pg_encode takes them. */
 #define PG_LABEL 0
@@ -123,6 +146,44 @@ uint32_t pg_read_parcel(const uint8_t *parcel, size_t parcel_len, uint64_t *memo
  * too short. */
 uint32_t pg_write_parcel(const uint64_t *memory, size_t memory_len, size_t n, const uint16_t *edges, size_t edges_len,
                          uint8_t *parcel, size_t parcel_len, uint64_t *count, size_t count_len);
+
+/* Checks a program and, where it is accepted, puts its figures: how tightly it is held.
+ * Answers PG_OK where it is accepted; PG_PLACE_TOO_SHORT where figures_len is below PG_FIGURES or place_len below 2 (tested
+ * first, nothing is changed); or 6 to 15, as pg_check answers, and the figures are unchanged. The place is put as by pg_check.
+ *
+ * figures[0] to figures[9]: the words of each kind, in the sequence label, add, addi, movi, bgt, jd, jmp, ld, st, illegal
+ * (so figures[PG_JMP] is the number of jumps); they add up to n. figures[10]: the target sets, equal ones counted once.
+ * figures[11]: the size of the largest, 0 without jumps. figures[12] and figures[13]: the freedom of the computed jumps,
+ * figures[12] of figures[13]. The first is the distinct edges, the second is jumps times code words: the edges that there
+ * could be if each jump could go to each code word. Without jumps the freedom is left out, and both are 0; with jumps
+ * neither is. */
+uint32_t pg_report(uint8_t technique, const uint64_t *memory, size_t memory_len, size_t n, const uint16_t *edges,
+                   size_t edges_len, uint64_t *figures, size_t figures_len, uint64_t *place, size_t place_len);
+
+/* The same of a parcel, which is read first: answers also 1 to 4, with no place. */
+uint32_t pg_report_parcel(uint8_t technique, const uint8_t *parcel, size_t parcel_len, uint64_t *figures,
+                          size_t figures_len, uint64_t *place, size_t place_len);
+
+/* Checks a program and adds its freedom to totals over up to 65,535 parcels. Fresh totals are PG_TOTALS zeros.
+ *
+ * totals[0]: the parcels so far, those passed over included. totals[1]: the sum of the distinct edges. totals[2]: the sum of
+ * the possible edges, jumps times code words. totals[3]: the place of the parcel with the largest freedom, counted from 0;
+ * the earliest, where freedoms are equal. totals[4] and totals[5]: its distinct edges and its possible ones. totals[5] is 0
+ * where there is none yet; totals[3] and totals[4] are then passed over, and all three are put back as 0.
+ *
+ * Answers PG_OK where it is counted; PG_WITHOUT_JUMPS where it is accepted but has no jumps; or 6 to 15, as pg_check answers.
+ * totals[0] then goes up by one. Without jumps or refused, the parcel is passed over: it keeps its place, and nothing is added.
+ * Answers PG_UNCHANGED, and the totals are as they were, where totals[0] is 65535 (whatever the further parcel is), where
+ * totals[1] or totals[2] would pass 64 bits, or where the numbers are no totals: totals[0] or totals[3] above 65535, totals[4]
+ * or totals[5] of 2 to the 32 or more. Answers PG_PLACE_TOO_SHORT where totals_len is below PG_TOTALS or place_len below 2
+ * (tested first, nothing is changed). For every other answer the place is put: the refusal's, as by pg_check, or 0 and 0. */
+uint32_t pg_add_report(uint8_t technique, const uint64_t *memory, size_t memory_len, size_t n, const uint16_t *edges,
+                       size_t edges_len, uint64_t *totals, size_t totals_len, uint64_t *place, size_t place_len);
+
+/* The same of a parcel, which is read first: answers also 1 to 4, with no place; it is then passed over like any other
+ * refused parcel. */
+uint32_t pg_add_parcel(uint8_t technique, const uint8_t *parcel, size_t parcel_len, uint64_t *totals, size_t totals_len,
+                       uint64_t *place, size_t place_len);
 
 #ifdef __cplusplus
 }

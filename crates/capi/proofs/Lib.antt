@@ -2,4 +2,5 @@ pub mod Words
 pub mod States
 pub mod Checks
 pub mod Parcels
+pub mod Figures
 pub mod Unchanged

@@ -11,6 +11,9 @@ ghost use Rattle.capi.specs.Inside.{Ordered, RunNumber};
 ghost use Rattle.capi.specs.Checks.{placeNumbers, CheckCall};
 ghost use Rattle.parcel.specs.Parcel.{readOf, countsOf};
 ghost use Rattle.capi.specs.Parcels.{readNumber, noPlace, ReadCall, WriteCall};
+
+mod reports;
+
 use answers::Place;
 use answers::Verdict;
 use isa::Technique;
@@ -183,7 +186,7 @@ fn run_number(order: u32, state: &mut [u64], memory: &mut [u64], n: usize) -> u6
     wide16(ended.count) * 0x1_0000_0000 + wide32(ending_number(ending))
 }
 
-fn technique_of(number: u8) -> Technique
+pub(crate) fn technique_of(number: u8) -> Technique
     ensures { λ r. ⌜ r ≡ techniqueOf number ⌝ }
 {
     if number == 0 {
@@ -206,7 +209,7 @@ fn put_fields(place: &mut [u32], opcode: u8, a: u8, b: u8, c: u8, w: u32)
 }
 
 // Which kind of place it is, and the place.
-fn put_place(place: &mut [u64], at: Place)
+pub(crate) fn put_place(place: &mut [u64], at: Place)
     requires { ⌜ 2 ≤ length (now place) ⌝ }
     ensures { λ _. ⌜ now (place .exit) ≡ putOver (placeNumbers at) (now (place .entry)) ⌝ }
 {
@@ -269,19 +272,19 @@ fn written_number(written: Written) -> u32
     }
 }
 
-fn wide8(x: u8) -> u32
+pub(crate) fn wide8(x: u8) -> u32
     ensures { λ r. ⌜ r ≡ x ⌝ }
 {
     x as u32
 }
 
-fn wide32(x: u32) -> u64
+pub(crate) fn wide32(x: u32) -> u64
     ensures { λ r. ⌜ r ≡ x ⌝ }
 {
     x as u64
 }
 
-fn wide16(x: u16) -> u64
+pub(crate) fn wide16(x: u16) -> u64
     ensures { λ r. ⌜ r ≡ x ⌝ }
 {
     x as u64
