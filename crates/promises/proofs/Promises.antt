@@ -9,6 +9,10 @@ use Rattle.parcel.proofs.RoundTrips.{read-written, written-read}
 use Rattle.parcel.proofs.Calls.{read-after-write, write-after-read}
 use Rattle.line.proofs.Theorems.{prefix-suffices}
 use Rattle.table.proofs.Table.{table}
+use Rattle.report.proofs.ByKind.{kinds-add-up}
+use Rattle.report.proofs.Examples.{reports-shown}
+use Rattle.totals.proofs.Lists.{counted-exactly, totals-of-list}
+use Rattle.totals.proofs.Examples.{totals-shown}
 use Rattle.capi.proofs.Unchanged.{refused-changes-nothing}
 use Rattle.promises.specs.Promises.{Promises}
 
@@ -29,5 +33,10 @@ kept =
       demand-3 = demand-3;
       programs-accepted = programs-accepted;
       calls-made = calls-made;
+      kinds-add-up = kinds-add-up;
+      counted-exactly = counted-exactly;
+      totals-of-list = totals-of-list;
+      reports-shown = reports-shown;
+      totals-shown = totals-shown;
       rows = table;
     }

@@ -2,7 +2,8 @@
 -- crate, and nothing is stated here anew; `proofs/Promises.antt` has the term that holds them all.
 --
 -- That every call ends, does nothing undefined and answers what its definition says is each function's own contract, in `src/`:
--- `decode` is `decodeOf`, `check` is `verdictOf`, `step` is `stepOf`, `run` is `runOf`, `read_parcel` is `readOf`, and so on.
+-- `decode` is `decodeOf`, `check` is `verdictOf`, `step` is `stepOf`, `run` is `runOf`, `read_parcel` is `readOf`,
+-- `report` is `reportOf`, and so on.
 use Prim.Native.Nat.{ℕ}
 use mathlib.Core.List.{List}
 use Rattle.isa.specs.declared.Technique.{Technique}
@@ -15,6 +16,10 @@ use Rattle.integrity.specs.Examples.{ProgramsAccepted, CallsMade}
 use Rattle.parcel.specs.Theorems.{ReadWritten, WrittenRead, ReadAfterWrite, WriteAfterRead}
 use Rattle.line.specs.Theorems.{PrefixSuffices}
 use Rattle.table.specs.Table.{Table}
+use Rattle.report.specs.Theorems.{KindsAddUp}
+use Rattle.report.specs.Examples.{ReportsShown}
+use Rattle.totals.specs.Theorems.{CountedExactly, TotalsOfList}
+use Rattle.totals.specs.Examples.{TotalsShown}
 use Rattle.capi.specs.Theorems.{RefusedChangesNothing}
 
 pub record Promises : Type 0 where
@@ -44,5 +49,14 @@ pub record Promises : Type 0 where
   -- That is about something: programs that are accepted, and calls over them that are made.
   pub programs-accepted : ProgramsAccepted
   pub calls-made : (registers : ℕ → ℕ) (word : ℕ) → CallsMade registers word
+  -- K1: the words of each kind add up to the words of the code;
+  pub kinds-add-up : KindsAddUp
+  -- over a list of at most 65,535 programs and parcels, the sums are those of the counted ones, which are the accepted ones that
+  -- have a jump, and the largest is the first whose freedom no other's passes, or none.
+  pub counted-exactly : CountedExactly
+  pub totals-of-list : TotalsOfList
+  -- Those too are about something: reports and totals of the post program.
+  pub reports-shown : ReportsShown
+  pub totals-shown : TotalsShown
   -- The starred rows of document 01.
   pub rows : Table
