@@ -1,4 +1,4 @@
-/* A gateway's day: read a parcel, check it, run it with bus writes in between, and say what happened.
+/* A gateway's day: read a parcel, check it, say how tightly it is held, run it with bus writes in between, and say what happened.
  *
  *     cc -std=c11 -Iinclude examples/c/gateway.c target/staticlib/libcapi.a -o gateway
  *     ./gateway            the post program of docs/REFERENCE.md
@@ -47,6 +47,20 @@ static uint8_t accepted_by(size_t len, size_t n, size_t edge_numbers) {
     exit(1);
 }
 
+/* the figures of the accepted program */
+static void print_figures(uint8_t technique, size_t len, size_t n, size_t edge_numbers) {
+    uint64_t figures[PG_FIGURES], place[2];
+    uint32_t answer = pg_report(technique, memory, len, n, edges, edge_numbers, figures, PG_FIGURES, place, 2);
+    if (answer != PG_OK) stop("no figures:", answer);
+    if (figures[PG_JMP] == 0) {
+        printf("no jumps\n");
+        return;
+    }
+    printf("%llu target sets, the largest of %llu; freedom %llu of %llu\n", (unsigned long long)figures[PG_FIGURE_SETS],
+           (unsigned long long)figures[PG_FIGURE_LARGEST], (unsigned long long)figures[PG_FIGURE_EDGES],
+           (unsigned long long)figures[PG_FIGURE_POSSIBLE]);
+}
+
 int main(int argc, char **argv) {
     const uint8_t *bytes = post_parcel;
     size_t size = sizeof post_parcel, len, n;
@@ -73,6 +87,7 @@ int main(int argc, char **argv) {
 
     technique = accepted_by(len, n, 2 * (size_t)counts[1]);
     printf("accepted, %s\n", technique == PG_PLAIN ? "plain" : "with memory guards");
+    print_figures(technique, len, n, 2 * (size_t)counts[1]);
 
     /* ten slices of the program's time, with the bus writing a register and a data word between any two; state is all zeros: a
      * fresh state has pc 0 */

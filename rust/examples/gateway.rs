@@ -1,4 +1,4 @@
-//! A gateway's day: read a parcel, check it, run it with bus writes in between, and say what happened.
+//! A gateway's day: read a parcel, check it, say how tightly it is held, run it with bus writes in between, and say what happened.
 //!
 //!     cargo run --release --example gateway            the post program of docs/REFERENCE.md
 //!     cargo run --release --example gateway FILE       a parcel of your own
@@ -20,6 +20,11 @@ fn main() {
         (plain, guarded) => stop(&format!("plain: {plain}; with memory guards: {guarded}")),
     };
     println!("accepted, {technique:?}");
+    let figures = program.report(technique).expect("the program is accepted");
+    match figures.freedom {
+        Some(freedom) => println!("{} target sets, the largest of {}; freedom {freedom}", figures.sets, figures.largest),
+        None => println!("no jumps"),
+    }
 
     // ten slices of the program's time, with the bus writing a register and a data word between any two
     let mut state = State::fresh([0; 32]);

@@ -1,8 +1,11 @@
-//! Document 01 in plain, safe Rust, written apart from the Rattle sources: what tests and benchmarks hold the library against.
+//! Document 01, and what document 02 adds, in plain, safe Rust, written apart from the Rattle sources: what tests and benchmarks
+//! hold the library against.
 //! A call that the benchmark times is kept out of line, as the library's calls are.
 #![allow(dead_code)]
 
 pub mod checkers;
+pub mod figures;
+pub mod totals;
 
 #[derive(Clone, Copy, PartialEq, Eq, Debug)]
 pub enum Op {

@@ -57,6 +57,48 @@ mod library {
             count: *mut u64,
             count_len: usize,
         ) -> u32;
+        pub fn pg_report(
+            technique: u8,
+            memory: *const u64,
+            memory_len: usize,
+            n: usize,
+            edges: *const u16,
+            edges_len: usize,
+            figures: *mut u64,
+            figures_len: usize,
+            place: *mut u64,
+            place_len: usize,
+        ) -> u32;
+        pub fn pg_report_parcel(
+            technique: u8,
+            parcel: *const u8,
+            parcel_len: usize,
+            figures: *mut u64,
+            figures_len: usize,
+            place: *mut u64,
+            place_len: usize,
+        ) -> u32;
+        pub fn pg_add_report(
+            technique: u8,
+            memory: *const u64,
+            memory_len: usize,
+            n: usize,
+            edges: *const u16,
+            edges_len: usize,
+            totals: *mut u64,
+            totals_len: usize,
+            place: *mut u64,
+            place_len: usize,
+        ) -> u32;
+        pub fn pg_add_parcel(
+            technique: u8,
+            parcel: *const u8,
+            parcel_len: usize,
+            totals: *mut u64,
+            totals_len: usize,
+            place: *mut u64,
+            place_len: usize,
+        ) -> u32;
     }
 }
 
@@ -162,9 +204,91 @@ pub mod slices {
             )
         }
     }
+
+    #[inline]
+    pub fn report(
+        technique: u8,
+        memory: &[u64],
+        n: usize,
+        edges: &[u16],
+        figures: &mut [u64],
+        place: &mut [u64],
+    ) -> u32 {
+        unsafe {
+            library::pg_report(
+                technique,
+                memory.as_ptr(),
+                memory.len(),
+                n,
+                edges.as_ptr(),
+                edges.len(),
+                figures.as_mut_ptr(),
+                figures.len(),
+                place.as_mut_ptr(),
+                place.len(),
+            )
+        }
+    }
+
+    #[inline]
+    pub fn report_parcel(technique: u8, parcel: &[u8], figures: &mut [u64], place: &mut [u64]) -> u32 {
+        unsafe {
+            library::pg_report_parcel(
+                technique,
+                parcel.as_ptr(),
+                parcel.len(),
+                figures.as_mut_ptr(),
+                figures.len(),
+                place.as_mut_ptr(),
+                place.len(),
+            )
+        }
+    }
+
+    #[inline]
+    pub fn add_report(
+        technique: u8,
+        memory: &[u64],
+        n: usize,
+        edges: &[u16],
+        totals: &mut [u64],
+        place: &mut [u64],
+    ) -> u32 {
+        unsafe {
+            library::pg_add_report(
+                technique,
+                memory.as_ptr(),
+                memory.len(),
+                n,
+                edges.as_ptr(),
+                edges.len(),
+                totals.as_mut_ptr(),
+                totals.len(),
+                place.as_mut_ptr(),
+                place.len(),
+            )
+        }
+    }
+
+    #[inline]
+    pub fn add_parcel(technique: u8, parcel: &[u8], totals: &mut [u64], place: &mut [u64]) -> u32 {
+        unsafe {
+            library::pg_add_parcel(
+                technique,
+                parcel.as_ptr(),
+                parcel.len(),
+                totals.as_mut_ptr(),
+                totals.len(),
+                place.as_mut_ptr(),
+                place.len(),
+            )
+        }
+    }
 }
 
-pub use slices::{check, decode, encode, read_parcel, write_data, write_parcel};
+pub use slices::{
+    add_parcel, add_report, check, decode, encode, read_parcel, report, report_parcel, write_data, write_parcel,
+};
 
 /// A state as 33 words. `State` is `repr(C)`: 32 registers and then the pc, with nothing between.
 #[inline]

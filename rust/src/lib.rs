@@ -1,5 +1,5 @@
-//! Post guard for Rust: the checker, the steppers, the bus writes and the parcels that the Rattle sources of this repository
-//! prove, behind safe functions and Rust's own types.
+//! Post guard for Rust: the checker, the steppers, the bus writes, the parcels and the figures that the Rattle sources of this
+//! repository prove, behind safe functions and Rust's own types.
 //!
 //! A gateway's day: read a parcel, check it, run it with bus writes in between.
 //!
@@ -29,6 +29,9 @@
 //! assert_eq!(parcel.len(), 88);
 //! assert_eq!(Program::from_parcel(&parcel), Ok(program));
 //! ```
+//!
+//! A site owner's question: how tightly is a program held? [`report`] and [`report_parcel`] give its [`Figures`], and [`Totals`]
+//! add up the freedoms of many parcels.
 //!
 //! The functions are thin, and `#[inline]`: a call costs what the library's call costs.
 //!
@@ -351,15 +354,46 @@ pub enum Verdict {
 
 impl fmt::Display for Verdict {
     fn fmt(&self, f: &mut fmt::Formatter) -> fmt::Result {
-        match self {
+        match *self {
             Verdict::Accepted => write!(f, "accepted"),
-            Verdict::Refused(refusal, None) => write!(f, "refused {}", refusal.number()),
-            Verdict::Refused(refusal, Some(Place::Edge(at) | Place::Address(at))) => {
-                write!(f, "refused {} at {}", refusal.number(), at)
-            }
+            Verdict::Refused(refusal, place) => Fault { refusal, place }.fmt(f),
         }
     }
 }
+
+/// Why a program has no figures: the first rule that is broken, and its first faulty place.
+#[derive(Clone, Copy, PartialEq, Eq, Hash, Debug)]
+pub struct Fault {
+    pub refusal: Refusal,
+    pub place: Option<Place>,
+}
+
+impl Fault {
+    /// The fault of a number that the library answers, with what it puts for the place.
+    #[inline]
+    fn of(number: u32, place: [u64; 2]) -> Fault {
+        let [kind, at] = place;
+        let place = match kind {
+            1 => Some(Place::Edge(at as usize)),
+            2 => Some(Place::Address(at as usize)),
+            _ => None,
+        };
+        Fault { refusal: Refusal::of(number), place }
+    }
+}
+
+/// As `verdict` prints it: `refused 14 at 6`.
+impl fmt::Display for Fault {
+    fn fmt(&self, f: &mut fmt::Formatter) -> fmt::Result {
+        let number = self.refusal.number();
+        match self.place {
+            None => write!(f, "refused {number}"),
+            Some(Place::Edge(at) | Place::Address(at)) => write!(f, "refused {number} at {at}"),
+        }
+    }
+}
+
+impl std::error::Error for Fault {}
 
 /// Checks n words of code, with the data size that the memory's length gives, against the claimed edges: pairs of a jump's
 /// address and a target.
@@ -377,14 +411,10 @@ pub fn check(technique: Technique, memory: &[u64], n: usize, edges: &[u16]) -> V
     let mut place = [0u64; 2];
     match calls::check(technique.number(), memory, n, edges, &mut place) {
         0 => Verdict::Accepted,
-        number => Verdict::Refused(
-            Refusal::of(number),
-            match place[0] {
-                1 => Some(Place::Edge(place[1] as usize)),
-                2 => Some(Place::Address(place[1] as usize)),
-                _ => None,
-            },
-        ),
+        number => {
+            let Fault { refusal, place } = Fault::of(number, place);
+            Verdict::Refused(refusal, place)
+        }
     }
 }
 
@@ -447,6 +477,293 @@ impl Program {
     /// The verdict on the program.
     pub fn check(&self, technique: Technique) -> Verdict {
         check(technique, &self.memory, self.code_words, &self.edges)
+    }
+
+    /// The figures of the program.
+    pub fn report(&self, technique: Technique) -> Result<Figures, Fault> {
+        report(technique, &self.memory, self.code_words, &self.edges)
+    }
+}
+
+/// The kinds of words that figures count: the instructions, in the sequence of the opcodes, and the illegal words.
+#[derive(Clone, Copy, PartialEq, Eq, Hash, Debug)]
+pub enum Kind {
+    Label,
+    Add,
+    Addi,
+    Movi,
+    Bgt,
+    Jd,
+    Jmp,
+    Ld,
+    St,
+    Illegal,
+}
+
+impl Kind {
+    /// Every kind, in the sequence in which figures count them.
+    pub const ALL: [Kind; 10] = [
+        Kind::Label,
+        Kind::Add,
+        Kind::Addi,
+        Kind::Movi,
+        Kind::Bgt,
+        Kind::Jd,
+        Kind::Jmp,
+        Kind::Ld,
+        Kind::St,
+        Kind::Illegal,
+    ];
+}
+
+/// The name of the instruction, as programs in text have it.
+impl fmt::Display for Kind {
+    fn fmt(&self, f: &mut fmt::Formatter) -> fmt::Result {
+        f.pad(match self {
+            Kind::Label => "label",
+            Kind::Add => "add",
+            Kind::Addi => "addi",
+            Kind::Movi => "movi",
+            Kind::Bgt => "bgt",
+            Kind::Jd => "jd",
+            Kind::Jmp => "jmp",
+            Kind::Ld => "ld",
+            Kind::St => "st",
+            Kind::Illegal => "illegal",
+        })
+    }
+}
+
+/// How free the computed jumps of a program are: how many edges they have, of how many that they could have.
+///
+/// Freedom 3 of 54, for instance: two jumps in 27 code words. If nothing held them, each jump could go to each of the 27 words,
+/// which makes 54 possible edges. The checked program has 3 of them, and no jump ever takes another. The smaller the part, the
+/// tighter the program is held.
+#[derive(Clone, Copy, PartialEq, Eq, Hash, Debug)]
+pub struct Freedom {
+    /// The distinct edges: one that is listed again counts once.
+    pub edges: u32,
+    /// Jumps times code words.
+    pub possible: u32,
+}
+
+impl fmt::Display for Freedom {
+    fn fmt(&self, f: &mut fmt::Formatter) -> fmt::Result {
+        write!(f, "{} of {}", self.edges, self.possible)
+    }
+}
+
+/// The figures of an accepted program: how tightly it is held.
+#[derive(Clone, Copy, PartialEq, Eq, Hash, Debug)]
+pub struct Figures {
+    /// How many words of each kind there are, in the sequence of [`Kind::ALL`]. They add up to n.
+    pub words: [u16; 10],
+    /// The target sets, equal ones counted once.
+    pub sets: u16,
+    /// How many targets the largest set has; 0 without jumps.
+    pub largest: u16,
+    /// Left out without jumps.
+    pub freedom: Option<Freedom>,
+}
+
+impl Figures {
+    /// How many words of this kind there are.
+    #[inline]
+    pub fn words_of(&self, kind: Kind) -> u16 {
+        self.words[kind as usize]
+    }
+
+    /// The figures in the numbers that the library puts.
+    #[inline]
+    fn of(numbers: &[u64; 14]) -> Figures {
+        let [words @ .., sets, largest, edges, possible] = numbers.map(|number| number as u32);
+        Figures {
+            words: words.map(|count| count as u16),
+            sets: sets as u16,
+            largest: largest as u16,
+            freedom: (possible != 0).then_some(Freedom { edges, possible }),
+        }
+    }
+}
+
+/// Checks a program, as [`check`] does, and gives its figures where it is accepted.
+///
+/// The post program has nine words and one jump with one edge: its freedom is 1 of 9.
+///
+/// ```
+/// use post_guard::{encode, report, Freedom, Instruction::*, Kind, Place, Refusal, Technique};
+///
+/// let code = [
+///     Movi { rd: 5, w: 7 },
+///     Addi { rd: 0, rs: 5, w: 0 },
+///     Ld { rd: 1, rs: 0, w: 0 },
+///     Movi { rd: 2, w: 7 },
+///     Bgt { rs: 1, rt: 2, w: 8 },
+///     Bgt { rs: 2, rt: 1, w: 8 },
+///     Jmp { rs: 0 },
+///     Label { w: 7 },
+///     Illegal,
+/// ];
+/// let figures = report(Technique::Plain, &code.map(encode), 9, &[6, 7]).unwrap();
+/// assert_eq!(figures.words, [1, 0, 1, 2, 2, 0, 1, 1, 0, 1]);
+/// assert_eq!(figures.words_of(Kind::Movi), 2);
+/// assert_eq!((figures.sets, figures.largest), (1, 1));
+/// assert_eq!(figures.freedom, Some(Freedom { edges: 1, possible: 9 }));
+///
+/// let fault = report(Technique::MemoryGuards, &code.map(encode), 9, &[6, 7]).unwrap_err();
+/// assert_eq!((fault.refusal, fault.place), (Refusal::JumpUnguarded, Some(Place::Address(6))));
+/// assert_eq!(fault.to_string(), "refused 14 at 6");
+///
+/// // one illegal word: no jumps, and no freedom
+/// let figures = report(Technique::Plain, &[u64::MAX], 1, &[]).unwrap();
+/// assert_eq!((figures.sets, figures.largest, figures.freedom), (0, 0, None));
+/// ```
+#[inline]
+pub fn report(technique: Technique, memory: &[u64], n: usize, edges: &[u16]) -> Result<Figures, Fault> {
+    let (mut figures, mut place) = ([0u64; 14], [0u64; 2]);
+    match calls::report(technique.number(), memory, n, edges, &mut figures, &mut place) {
+        0 => Ok(Figures::of(&figures)),
+        number => Err(Fault::of(number, place)),
+    }
+}
+
+/// The same of a parcel, which is read first. One that cannot be read has a fault without a place.
+///
+/// ```
+/// use post_guard::{report_parcel, Refusal, Technique};
+/// // one illegal code word, no edges, no data
+/// let mut parcel = [1u32.to_le_bytes(), [255; 4], [255; 4], [0; 4], [0; 4]].concat();
+/// assert_eq!(report_parcel(Technique::Plain, &parcel).unwrap().words, [0, 0, 0, 0, 0, 0, 0, 0, 0, 1]);
+/// parcel.push(0);
+/// assert_eq!(report_parcel(Technique::Plain, &parcel).unwrap_err().refusal, Refusal::TrailingBytes);
+/// ```
+#[inline]
+pub fn report_parcel(technique: Technique, parcel: &[u8]) -> Result<Figures, Fault> {
+    let (mut figures, mut place) = ([0u64; 14], [0u64; 2]);
+    match calls::report_parcel(technique.number(), parcel, &mut figures, &mut place) {
+        0 => Ok(Figures::of(&figures)),
+        number => Err(Fault::of(number, place)),
+    }
+}
+
+/// The parcel with the largest freedom.
+#[derive(Clone, Copy, PartialEq, Eq, Hash, Debug)]
+pub struct Largest {
+    /// Its place among those added, counted from 0; those passed over have a place too.
+    pub parcel: u16,
+    pub freedom: Freedom,
+}
+
+/// Totals over up to 65,535 parcels, added one after the other.
+///
+/// A parcel that is refused, or has no jumps, is passed over: it keeps its place, and nothing is added. Which freedom is larger
+/// is told by cross products, without rounding: 2 of 18 is as large as 1 of 9. The earliest of equal ones is kept.
+///
+/// ```
+/// use post_guard::{encode, Added, Freedom, Instruction::*, Largest, Program, Refusal, Technique, Totals};
+///
+/// let code = [
+///     Addi { rd: 0, rs: 5, w: 0 },
+///     Ld { rd: 1, rs: 0, w: 0 },
+///     Movi { rd: 2, w: 6 },
+///     Bgt { rs: 1, rt: 2, w: 7 },
+///     Bgt { rs: 2, rt: 1, w: 7 },
+///     Jmp { rs: 0 },
+///     Label { w: 6 },
+///     Illegal,
+/// ];
+/// let memory = code.map(encode).to_vec();
+/// let mut totals = Totals::new();
+///
+/// // place 0: the edge that it claims starts at no jump
+/// let Added::Refused(fault) = totals.add(Technique::Plain, &memory, 8, &[4, 6]) else { panic!() };
+/// assert_eq!(fault.refusal, Refusal::EdgeFromNoJump);
+/// // place 1: nothing but an illegal word
+/// assert_eq!(totals.add(Technique::Plain, &[u64::MAX], 1, &[]), Added::WithoutJumps);
+/// assert_eq!((totals.parcels, totals.largest), (2, None));
+///
+/// // places 2 and 3: one edge of eight, as a program and as a parcel
+/// assert_eq!(totals.add(Technique::Plain, &memory, 8, &[5, 6]), Added::Counted);
+/// let parcel = Program { memory, code_words: 8, edges: vec![5, 6] }.to_parcel().unwrap();
+/// assert_eq!(totals.add_parcel(Technique::Plain, &parcel), Added::Counted);
+/// assert_eq!((totals.parcels, totals.edges, totals.possible), (4, 2, 16));
+/// assert_eq!(totals.largest, Some(Largest { parcel: 2, freedom: Freedom { edges: 1, possible: 8 } }));
+/// ```
+#[derive(Clone, Copy, PartialEq, Eq, Hash, Debug, Default)]
+pub struct Totals {
+    /// How many parcels were added, those passed over included.
+    pub parcels: u16,
+    /// The sum of their distinct edges.
+    pub edges: u64,
+    /// The sum of their possible edges, jumps times code words of each.
+    pub possible: u64,
+    /// `None` where all were passed over. One that is made by hand with 0 possible edges counts as none.
+    pub largest: Option<Largest>,
+}
+
+/// What became of a parcel that was to be added.
+#[derive(Clone, Copy, PartialEq, Eq, Hash, Debug)]
+pub enum Added {
+    Counted,
+    /// Accepted, but it has no jumps: it is passed over.
+    WithoutJumps,
+    /// Refused: it is passed over.
+    Refused(Fault),
+    /// The totals are as they were: 65,535 parcels are in already, or a sum would pass 64 bits.
+    Unchanged,
+}
+
+impl Totals {
+    /// Fresh totals, over no parcels.
+    #[inline]
+    pub fn new() -> Totals {
+        Totals::default()
+    }
+
+    /// Checks a program, as [`check`] does, and adds its freedom.
+    #[inline]
+    pub fn add(&mut self, technique: Technique, memory: &[u64], n: usize, edges: &[u16]) -> Added {
+        let (mut totals, mut place) = (self.numbers(), [0u64; 2]);
+        let number = calls::add_report(technique.number(), memory, n, edges, &mut totals, &mut place);
+        self.take(number, &totals, place)
+    }
+
+    /// The same of a parcel, which is read first. One that cannot be read is passed over like any other refused one.
+    #[inline]
+    pub fn add_parcel(&mut self, technique: Technique, parcel: &[u8]) -> Added {
+        let (mut totals, mut place) = (self.numbers(), [0u64; 2]);
+        let number = calls::add_parcel(technique.number(), parcel, &mut totals, &mut place);
+        self.take(number, &totals, place)
+    }
+
+    /// The totals as the library has them.
+    #[inline]
+    fn numbers(&self) -> [u64; 6] {
+        let (parcel, edges, possible) = match self.largest {
+            Some(Largest { parcel, freedom }) => (parcel, freedom.edges, freedom.possible),
+            None => (0, 0, 0),
+        };
+        [self.parcels.into(), self.edges, self.possible, parcel.into(), edges.into(), possible.into()]
+    }
+
+    /// Takes over what the library put, and says what its answer means.
+    #[inline]
+    fn take(&mut self, number: u32, totals: &[u64; 6], place: [u64; 2]) -> Added {
+        if number == 257 {
+            return Added::Unchanged;
+        }
+        let freedom = Freedom { edges: totals[4] as u32, possible: totals[5] as u32 };
+        *self = Totals {
+            parcels: totals[0] as u16,
+            edges: totals[1],
+            possible: totals[2],
+            largest: (totals[5] != 0).then_some(Largest { parcel: totals[3] as u16, freedom }),
+        };
+        match number {
+            0 => Added::Counted,
+            256 => Added::WithoutJumps,
+            number => Added::Refused(Fault::of(number, place)),
+        }
     }
 }
 

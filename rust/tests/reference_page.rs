@@ -1,6 +1,7 @@
-//! docs/REFERENCE.md against what it tells of: the programs shown are the examples and are accepted as the page says, the table of
-//! numbers has every number under the header's name, and the definitions that the page names are there. Every example gets the
-//! verdicts that were worked out by hand.
+//! docs/REFERENCE.md against what it tells of: the programs shown are the examples and are accepted as the page says, the tables of
+//! numbers have every number under the header's name, every call of the header has its row, what the example of figures prints is
+//! what it prints, and the definitions that the page names are there. Every example gets the verdicts that were worked out by
+//! hand.
 use post_guard::{Place, Program, Refusal, Refusal::*, Technique, Verdict};
 use std::fs;
 use std::path::{Path, PathBuf};
@@ -97,6 +98,8 @@ fn examples_get_the_verdicts_worked_out_by_hand() {
         ("clipping", Verdict::Accepted, address(StoreUnguarded, 14)),
         // the label at 9 is no destination; 12 comes before 13 and 14
         ("clipping-skipped", address(LabelCondition, 9), address(LabelCondition, 9)),
+        // with memory guards the st at 25 has no guard
+        ("day-and-night", Verdict::Accepted, address(StoreUnguarded, 25)),
         // the target 9 is n, the first address of data
         ("label-in-data", edge(TargetOutsideCode, 0), edge(TargetOutsideCode, 0)),
         // plain asks for addi r0, rs, 0 five words before the jmp at 15, where a bgt is
@@ -144,9 +147,14 @@ fn every_number_has_a_row_under_its_name() {
     let header = text_of("include/post_guard.h");
     let last_refusal = Refusal::ALL.len() as u32;
     assert_eq!(Refusal::ALL.map(Refusal::number).to_vec(), (1..=last_refusal).collect::<Vec<_>>(), "Refusal::ALL");
-    for (heading, last) in [("## Numbers", last_refusal), ("## Steps and stops", 4)] {
+    let numbers = [
+        ("## Numbers", (1..=last_refusal).collect()),
+        ("## Steps and stops", (1..=4).collect()),
+        ("## Figures and totals", vec![0, 256, 257]),
+    ];
+    for (heading, numbers) in numbers {
         let rows = rows(heading);
-        assert_eq!(rows.iter().map(|row| row.0).collect::<Vec<_>>(), (1..=last).collect::<Vec<_>>(), "{heading}");
+        assert_eq!(rows.iter().map(|row| row.0).collect::<Vec<_>>(), numbers, "{heading}");
         for (number, name) in rows {
             let defined = header.lines().any(|line| {
                 line.split_whitespace().take(3).eq(["#define", name.as_str(), number.to_string().as_str()])
@@ -154,6 +162,55 @@ fn every_number_has_a_row_under_its_name() {
             assert!(defined, "the header does not define {name} as {number}");
         }
     }
+}
+
+/// Every name of the header's that the page has is defined there; where a number of figures or totals stands in the same cell, as in
+/// `figures[10]`, at `PG_FIGURE_SETS`, the names are defined as these numbers, in their sequence.
+#[test]
+fn names_are_those_of_the_header() {
+    let (header, page) = (text_of("include/post_guard.h"), page());
+    let value = |name: &str| {
+        let mut defined = header.lines().filter_map(|line| line.strip_prefix("#define ")?.split_once(' '));
+        let (_, value) = defined.find(|(other, _)| *other == name).unwrap_or_else(|| panic!("the header has no {name}"));
+        value.split_whitespace().next().unwrap().to_string()
+    };
+    let mut places = 0;
+    for cell in page.lines().flat_map(|line| line.split(" | ")) {
+        let quoted: Vec<&str> = cell.split('`').skip(1).step_by(2).collect();
+        let names: Vec<&str> = quoted.iter().copied().filter(|text| text.starts_with("PG_")).collect();
+        let numbers: Vec<&str> =
+            quoted.iter().filter_map(|text| text.split_once('[')?.1.strip_suffix(']')).filter(|at| !at.starts_with("PG_")).collect();
+        let values: Vec<String> = names.iter().map(|name| value(name)).collect();
+        if cell.contains(", at `PG_") {
+            assert_eq!(values, numbers, "{cell}");
+            places += names.len();
+        }
+    }
+    assert_eq!(places, 10, "names of places of figures and totals");
+}
+
+#[test]
+fn every_call_has_a_row() {
+    let (header, page) = (text_of("include/post_guard.h"), page());
+    let calls: Vec<&str> = header
+        .lines()
+        .filter(|line| line.starts_with("uint"))
+        .filter_map(|line| line.split_whitespace().nth(1)?.split('(').next())
+        .collect();
+    let rows: Vec<&str> =
+        page.lines().filter_map(|line| line.strip_prefix("| `pg_").and(line.split('`').nth(1))).collect();
+    assert!(calls.contains(&"pg_check") && calls.contains(&"pg_add_parcel"), "{calls:?}");
+    assert_eq!(rows, calls);
+}
+
+#[test]
+fn figures_shown_are_what_the_example_prints() {
+    let mut count = 0;
+    for Shown { file, block, .. } in shown().into_iter().filter(|shown| shown.file.ends_with(".out")) {
+        assert!(!block.is_empty() && text_of(&file).contains(&block), "{file} does not have\n{block}");
+        count += 1;
+    }
+    assert!(count > 0, "the page shows no figures");
 }
 
 #[test]

@@ -1,5 +1,6 @@
 //! Times as ratios: the library's calls, through the safe wrapper, against plain safe Rust that does the same work, both built
-//! for release, in one run. `cargo bench` prints two tables, and at last the rows that are over their goal.
+//! for release, in one run. `cargo bench` prints the table of ratios, the check's time by size, and the report's time against
+//! the check's; at last the rows that are over their goal.
 //!
 //! Like is timed with like. The plain Rust side is a call too: what is timed of it is kept out of line, here and in the
 //! reference, and state and memory are lent. No buffer is cleared between calls, for either side: places are filled once, before
@@ -11,7 +12,8 @@ mod timing;
 
 use post_guard as guard;
 use programs::{accepted, refused, spinning, Fault, Program};
-use reference::{checkers, checkers::Answer, Op, Technique, TECHNIQUES};
+use reference::figures::{report_flat, report_parcel_flat, Report};
+use reference::{checkers, checkers::Answer, totals, Op, Technique, TECHNIQUES};
 use std::hint::black_box;
 use timing::{measure, Table, Times, ROUNDS};
 
@@ -29,7 +31,10 @@ fn main() {
     parcels(&mut table, "a full parcel", full());
     let growth = accepted_checks(&mut table);
     refused_checks(&mut table);
+    let over_checks = reports(&mut table);
+    additions(&mut table);
     print_growth(&growth);
+    print_over_checks(&over_checks);
     println!("\n{}", table.told());
 }
 
@@ -296,5 +301,119 @@ fn print_growth(growth: &[Growth]) {
     println!("|---|---|---|---|---|");
     for Growth { technique, n, edges, time } in growth {
         println!("| {technique:?} | {n} | {edges} | {time:.0} | {:.2} |", time / *n as f64);
+    }
+}
+
+/// How long a report of ours takes, and a check of ours alone.
+struct OverCheck {
+    technique: Technique,
+    n: usize,
+    times: Times,
+}
+
+fn reports(table: &mut Table) -> Vec<OverCheck> {
+    let mut over_checks = Vec::new();
+    for technique in TECHNIQUES {
+        for n in [64, 256, 1024, 2048] {
+            let mut program = accepted(technique, n);
+            let edges = program.edges.len() / 2;
+            let times = report_times(technique, &mut program);
+            table.row(&format!("report, {technique:?}, {n} words, {edges} edges, flat arrays"), times, GOAL);
+            over_checks.push(OverCheck { technique, n, times: report_and_check_times(technique, &mut program) });
+        }
+    }
+    over_checks
+}
+
+fn our_report(technique: Technique, p: &Program) -> Result<guard::Figures, guard::Fault> {
+    guard::report(library(technique), &p.memory, p.n, &p.edges)
+}
+
+/// the report on an accepted program by the library and by plain Rust
+fn report_times(technique: Technique, program: &mut Program) -> Times {
+    let plain_report = |p: &Program| report_flat(technique, &p.memory, p.n, &p.edges);
+    assert!(plain_report(program).is_ok());
+    measure(1, program, |p| our_sum(our_report(technique, p)), |p| sum(plain_report(p)))
+}
+
+/// the library's report against the library's check: both answer whether the program is accepted
+fn report_and_check_times(technique: Technique, program: &mut Program) -> Times {
+    let accepts = |p: &Program| guard::check(library(technique), &p.memory, p.n, &p.edges) == guard::Verdict::Accepted;
+    measure(1, program, |p| black_box(our_report(technique, p)).is_ok(), |p| accepts(p))
+}
+
+/// every number of the figures in one, each at another weight
+fn our_sum(report: Result<guard::Figures, guard::Fault>) -> u64 {
+    let Ok(guard::Figures { words, sets, largest, freedom }) = report else { return 0 };
+    let (edges, possible) = freedom.map_or((0, 0), |freedom| (freedom.edges, freedom.possible));
+    weighed(words, sets, largest, edges, possible)
+}
+
+fn sum(report: Report) -> u64 {
+    let Ok(reference::figures::Figures { words, sets, largest, freedom }) = report else { return 0 };
+    let (edges, possible) = freedom.unwrap_or((0, 0));
+    weighed(words, sets, largest, edges, possible)
+}
+
+#[inline(always)]
+fn weighed(words: [u16; 10], sets: u16, largest: u16, edges: u32, possible: u32) -> u64 {
+    let kinds: u64 = words.iter().zip(1..).map(|(&count, weight): (_, u64)| u64::from(count) * weight).sum();
+    kinds + u64::from(sets) * 11 + u64::from(largest) * 12 + u64::from(edges) * 13 + u64::from(possible) * 14
+}
+
+fn print_over_checks(over_checks: &[OverCheck]) {
+    println!("\n| report against check | words | report | check | ratio |");
+    println!("|---|---|---|---|---|");
+    for OverCheck { technique, n, times: Times { ours, theirs } } in over_checks {
+        println!("| {technique:?} | {n} | {ours:.0} | {theirs:.0} | {:.2} |", ours / theirs);
+    }
+}
+
+/// A parcel that is added again and again to the same totals.
+struct Addition {
+    parcel: Vec<u8>,
+    totals: guard::Totals,
+    plain_totals: totals::Totals,
+}
+
+impl Addition {
+    fn of(program: Program) -> Addition {
+        let program = guard::Program { memory: program.memory, code_words: program.n, edges: program.edges };
+        let mut addition = Addition {
+            parcel: program.to_parcel().unwrap_or_default(),
+            totals: guard::Totals::new(),
+            plain_totals: totals::Totals::default(),
+        };
+        (addition.totals, addition.plain_totals) = (addition.added(), addition.plain_added());
+        assert_eq!(addition.totals.parcels, 1);
+        assert!(addition.totals.largest.is_some());
+        addition
+    }
+
+    fn added(&self) -> guard::Totals {
+        let mut totals = self.totals;
+        black_box(totals.add_parcel(guard::Technique::Plain, &self.parcel));
+        totals
+    }
+
+    fn plain_added(&self) -> totals::Totals {
+        let mut totals = self.plain_totals;
+        black_box(plain_add_parcel(&mut totals, &self.parcel));
+        totals
+    }
+}
+
+#[inline(never)]
+fn plain_add_parcel(totals: &mut totals::Totals, parcel: &[u8]) -> totals::Added {
+    totals::add(totals, &report_parcel_flat(Technique::Plain, parcel))
+}
+
+fn additions(table: &mut Table) {
+    for (what, program) in [("a small parcel", small()), ("a large parcel", accepted(Technique::Plain, 2048))] {
+        let mut addition = Addition::of(program);
+        let sum = |t: guard::Totals| u64::from(t.parcels) + t.edges + t.possible;
+        let plain_sum = |t: totals::Totals| t.parcels + t.edges + t.possible;
+        let times = measure(1, &mut addition, |a| sum(a.added()), |a| plain_sum(a.plain_added()));
+        table.row(&format!("adding {what}"), times, GOAL);
     }
 }

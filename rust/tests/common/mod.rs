@@ -209,6 +209,29 @@ fn other(r: &mut Random, guards: bool, n: usize, first_words: &[usize]) -> Op {
     }
 }
 
+/// A program of n words without jumps that the technique accepts.
+pub fn without_jumps(r: &mut Random, technique: Technique, n: usize, d: usize) -> Program {
+    let guards = technique == Technique::MemoryGuards;
+    let all: Vec<usize> = (0..n).collect();
+    let mut memory: Vec<u64> = (1..n).map(|_| encode(other(r, guards, n, &all))).collect();
+    memory.push(encode(Op::Illegal));
+    memory.extend((0..d).map(|_| r.odd_number()));
+    Program { memory, n, edges: Vec::new() }
+}
+
+/// Lists one to eight edges again, at any place of the list, as far as there is room: an accepted program stays accepted.
+pub fn repeat_edges(r: &mut Random, p: &mut Program) {
+    for _ in 0..1 + r.below(8) {
+        let pairs = p.edges.len() / 2;
+        if pairs == 0 || pairs >= 2048 {
+            return;
+        }
+        let (from, to) = (r.below(pairs) * 2, r.below(pairs + 1) * 2);
+        let edge = [p.edges[from], p.edges[from + 1]];
+        p.edges.splice(to..to, edge);
+    }
+}
+
 /// Damages a program in one place, in one of many ways.
 pub fn damage(r: &mut Random, p: &mut Program) {
     let n = p.n.min(p.memory.len()).max(1);
