@@ -9,11 +9,13 @@ use Rattle.lists.specs.Places.{shorter, putOver}
 use Rattle.checker.specs.Verdicts.{verdictOf}
 use Rattle.capi.specs.States.{techniqueOf}
 use Rattle.capi.specs.Checks.{verdictNumber, placeNumbers, verdictPlace, CheckCall}
+use Rattle.capi.specs.Inside.{VerdictPut}
 
-pub check-done : (technique : ℕ) (m : List ℕ) (n : ℕ) (g p : List ℕ) (v : Verdict) {t : Technique} {r : ℕ} {p′ : List ℕ} → shorter p 2 ≡ false → v ≡ verdictOf t m n g → t ≡ techniqueOf technique → r ≡ verdictNumber v → p′ ≡ putOver (placeNumbers (verdictPlace v)) p → CheckCall technique m n g p r p′
-check-done technique m n g p v l so same e f =
+pub check-done : {technique n r : ℕ} {m g p p′ : List ℕ} {v : Verdict} {t : Technique} → shorter p 2 ≡ false → v ≡ verdictOf t m n g
+    → t ≡ techniqueOf technique → VerdictPut v p r p′ → CheckCall technique m n g p r p′
+check-done {technique} {n} {m = m} {g = g} {p = p} {v = v} l so same put =
     let told : v ≡ verdictOf (techniqueOf technique) m n g = so ∙ ap (λ (x : Technique). verdictOf x m n g) same in
     record {
-      answer = rw l (e ∙ ap verdictNumber told);
-      place-after = rw l (f ∙ ap (λ (x : Verdict). putOver (placeNumbers (verdictPlace x)) p) told);
+      answer = rw l (put .answer ∙ ap verdictNumber told);
+      place-after = rw l (put .place-after ∙ ap (λ (x : Verdict). putOver (placeNumbers (verdictPlace x)) p) told);
     }

@@ -12,7 +12,6 @@ use lib.Seq.{sets, drop-cons}
 use borrow.Author.Tests.{leb-true, ltb-true, ltb-false, le-ltb}
 use Rattle.lists.specs.Places.{shorter, putOver}
 use Rattle.lists.proofs.Bools.{and-four, or-left, or-right}
-use Rattle.answers.specs.declared.Verdict.{Verdict}
 use Rattle.report.specs.declared.Figures.{Figures}
 use Rattle.report.specs.declared.Answer.{Answer}
 use Rattle.report.specs.Figures.{numeratorOf, denominatorOf}
@@ -24,9 +23,9 @@ use Rattle.totals.specs.Totals.{addReport}
 use Rattle.parcel.proofs.Numbers.{sets-append}
 use Rattle.parcel.proofs.Runs.{over-front}
 use Rattle.capi.specs.Words.{tooShort}
-use Rattle.capi.specs.Checks.{verdictNumber, placeNumbers, verdictPlace}
+use Rattle.capi.specs.Checks.{placeNumbers}
 use Rattle.capi.specs.Reports.{figureNumbers, figuresAfter, largestNumbers, totalNumbers, totalsIn, areTotals, addedNumber, addedPlace, totalsAfter, ReportCall, AddCall}
-use Rattle.capi.specs.Inside.{AddedIn, AreTotals}
+use Rattle.capi.specs.Inside.{VerdictPut, AddedIn, AdditionPut, AreTotals}
 
 -- what is still to be stored makes the whole: one number more, and none left
 pub one-more : (xs p₀ p : List ℕ) (i : ℕ) → sets p₀ 0 xs ≡ sets p i (drop i xs) → i < length xs
@@ -66,12 +65,12 @@ module _ (report : Answer) (words : List ℕ) where
   pub not-added : areTotals words ≡ false → AddedIn report words Added.Unchanged words
   not-added e = record { answer = rw e; totals-after = rw e }
 
-  pub added-in : {made : Addition} {words′ : List ℕ} → areTotals words ≡ true → made ≡ addReport (totalsIn words) report
-      → words′ ≡ totalsAfter (made .answer) (made .totals) words → AddedIn report words (made .answer) words′
-  added-in {made} e m w =
+  pub added-in : {made : Addition} {r : Added} {words′ : List ℕ} → areTotals words ≡ true → made ≡ addReport (totalsIn words) report
+      → AdditionPut made words r words′ → AddedIn report words r words′
+  added-in e m put =
       record {
-        answer = rw e (ap (λ (x : Addition). x .answer) m);
-        totals-after = w ∙ rw e (ap (λ (x : Addition). totalsAfter (x .answer) (x .totals) words) m);
+        answer = rw e (put .answer ∙ ap (λ (x : Addition). x .answer) m);
+        totals-after = rw e (put .totals-after ∙ ap (λ (x : Addition). totalsAfter (x .answer) (x .totals) words) m);
       }
 
 -- the calls: a place is too short, and both are long enough
@@ -103,13 +102,9 @@ module _ {report : Answer} {figures place : List ℕ} where
       → ReportCall report figures place tooShort figures place
   report-short e f = let s = sym e ∙ f in record { answer = rw s; figures-after = rw s; place-after = rw s }
 
-  pub report-done : (14 ≤ length figures) × (2 ≤ length place) → {v : Verdict} {figures′ place′ : List ℕ} {r : ℕ} → report .verdict ≡ v
-      → r ≡ verdictNumber v → figures′ ≡ figuresAfter v (report .figures) figures
-      → place′ ≡ putOver (placeNumbers (verdictPlace v)) place → ReportCall report figures place r figures′ place′
-  report-done long so e f p =
+  pub report-done : (14 ≤ length figures) × (2 ≤ length place) → {figures′ place′ : List ℕ} {r : ℕ}
+      → figures′ ≡ figuresAfter (report .verdict) (report .figures) figures → VerdictPut (report .verdict) place r place′
+      → ReportCall report figures place r figures′ place′
+  report-done long f put =
       let s = neither long in
-      record {
-        answer = rw s (e ∙ ap verdictNumber (sym so));
-        figures-after = rw s (f ∙ ap (λ (x : Verdict). figuresAfter x (report .figures) figures) (sym so));
-        place-after = rw s (p ∙ ap (λ (x : Verdict). putOver (placeNumbers (verdictPlace x)) place) (sym so));
-      }
+      record { answer = rw s (put .answer); figures-after = rw s f; place-after = rw s (put .place-after) }

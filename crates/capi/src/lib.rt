@@ -7,7 +7,7 @@ ghost use Rattle.machine.specs.Numbers.{endingNumber, writtenNumber};
 ghost use Rattle.lists.specs.Places.{putOver};
 ghost use Rattle.capi.specs.Words.{DecodeCall, encodeCall};
 ghost use Rattle.capi.specs.States.{techniqueOf, StepCall, RunCall, WriteDataCall, WriteRegisterCall};
-ghost use Rattle.capi.specs.Inside.{Ordered, RunNumber};
+ghost use Rattle.capi.specs.Inside.{Ordered, RunNumber, VerdictPut};
 ghost use Rattle.capi.specs.Checks.{placeNumbers, CheckCall};
 ghost use Rattle.parcel.specs.Parcel.{readOf, countsOf};
 ghost use Rattle.capi.specs.Parcels.{readNumber, noPlace, ReadCall, WriteCall};
@@ -106,16 +106,10 @@ pub extern "C" fn pg_check(
     if place.len() < 2 {
         return 5;
     }
-    match checker::check(technique_of(technique), memory, n, edges) {
-        Verdict::Accepted => {
-            put_place(place, Place::Nowhere);
-            0
-        }
-        Verdict::Refused(why, at) => {
-            put_place(place, at);
-            wide8(answers::number(why))
-        }
-    }
+    put_verdict(
+        place,
+        checker::check(technique_of(technique), memory, n, edges),
+    )
 }
 
 #[no_mangle]
@@ -206,6 +200,23 @@ fn put_fields(place: &mut [u32], opcode: u8, a: u8, b: u8, c: u8, w: u32)
     place[2] = wide8(b);
     place[3] = wide8(c);
     place[4] = w;
+}
+
+// The answer to a verdict, its place put down.
+pub(crate) fn put_verdict(place: &mut [u64], verdict: Verdict) -> u32
+    requires { ⌜ 2 ≤ length (now place) ⌝ }
+    ensures { λ r. ⌜ VerdictPut verdict (now (place .entry)) r (now (place .exit)) ⌝ }
+{
+    match verdict {
+        Verdict::Accepted => {
+            put_place(place, Place::Nowhere);
+            0
+        }
+        Verdict::Refused(why, at) => {
+            put_place(place, at);
+            wide8(answers::number(why))
+        }
+    }
 }
 
 // Which kind of place it is, and the place.

@@ -10,9 +10,10 @@ ghost use Rattle.lists.specs.Places.{putOver};
 ghost use Rattle.report.specs.Figures.{numeratorOf, denominatorOf};
 ghost use Rattle.report.specs.Reports.{reportOf, parcelReport};
 ghost use Rattle.capi.specs.States.{techniqueOf};
-ghost use Rattle.capi.specs.Reports.{figureNumbers, totalNumbers, largestNumbers, largestBy, totalsIn, areTotals, addedNumber, addedPlace, totalsAfter, ReportCall, AddCall};
-ghost use Rattle.capi.specs.Inside.{AddedIn, AreTotals};
+ghost use Rattle.capi.specs.Reports.{figureNumbers, figuresAfter, totalNumbers, largestNumbers, largestBy, totalsIn, areTotals, addedNumber, addedPlace, totalsAfter, ReportCall, AddCall};
+ghost use Rattle.capi.specs.Inside.{AddedIn, AdditionPut, AreTotals};
 use crate::put_place;
+use crate::put_verdict;
 use crate::technique_of;
 use crate::wide8;
 use crate::wide16;
@@ -24,6 +25,7 @@ use report::Answer;
 use report::Figures;
 use report::Freedom;
 use totals::Added;
+use totals::Addition;
 use totals::Largest;
 use totals::Totals;
 
@@ -111,17 +113,8 @@ fn answer_report(made: Answer, figures: &mut [u64], place: &mut [u64]) -> u32
     ensures { λ r. ⌜ ReportCall made (now (figures .entry)) (now (place .entry)) r (now (figures .exit)) (now (place .exit)) ⌝ }
 {
     let verdict = made.verdict;
-    match verdict {
-        Verdict::Accepted => {
-            put_figures(figures, made.figures);
-            put_place(place, Place::Nowhere);
-            0
-        }
-        Verdict::Refused(why, at) => {
-            put_place(place, at);
-            wide8(answers::number(why))
-        }
-    }
+    put_accepted(figures, verdict, made.figures);
+    put_verdict(place, verdict)
 }
 
 // The answer to a report that is added to totals, the new totals and the place put down.
@@ -142,14 +135,29 @@ fn add_in(made: Answer, sums: &mut [u64]) -> Added
     if !are_totals(sums) {
         return Added::Unchanged;
     }
-    let verdict = made.verdict;
-    let figures = made.figures;
-    let freedom = figures.freedom;
-    let added = totals::add_report(totals_in(sums), verdict, freedom);
+    put_addition(sums, totals::add_report(totals_in(sums), made))
+}
+
+// What became of a report, the totals after it put down.
+fn put_addition(sums: &mut [u64], added: Addition) -> Added
+    requires { ⌜ 6 ≤ length (now sums) ⌝ }
+    ensures { λ r. ⌜ AdditionPut added (now (sums .entry)) r (now (sums .exit)) ⌝ }
+{
     let after = added.totals;
     let answer = added.answer;
     put_after(sums, after, answer);
     answer
+}
+
+// The figures, where the program is accepted.
+fn put_accepted(place: &mut [u64], verdict: Verdict, figures: Figures)
+    requires { ⌜ 14 ≤ length (now place) ⌝ }
+    ensures { λ _. ⌜ now (place .exit) ≡ figuresAfter verdict figures (now (place .entry)) ⌝ }
+{
+    match verdict {
+        Verdict::Accepted => put_figures(place, figures),
+        Verdict::Refused(_, _) => {}
+    }
 }
 
 // The fourteen numbers of a program, at the front of the place.

@@ -4,12 +4,12 @@ use mathlib.Core.List.{[], _∷_}
 use Rattle.report.specs.declared.Answer.{Answer}
 use Rattle.report.proofs.Examples.{reports-shown}
 use Rattle.totals.specs.declared.Largest.{Largest}
-use Rattle.totals.specs.Totals.{totals, freshTotals, addBy, addReport}
+use Rattle.totals.specs.Totals.{totals, freshTotals, addReport}
 use Rattle.totals.specs.Theorems.{addAll}
 use Rattle.totals.specs.Examples.{post, TotalsShown}
 
 pub totals-shown : TotalsShown
-unfolding addAll addBy
+unfolding addAll addReport
 totals-shown =
     ap (λ (r : Answer). addAll (addReport freshTotals r .totals) (post ∷ post ∷ [])) (reports-shown .refused)
     ∙ ap (λ (r : Answer). addAll (addReport (totals 1 0 0 Largest.NoParcel) r .totals) (post ∷ [])) (reports-shown .post)

@@ -25,7 +25,7 @@ use Rattle.report.specs.Theorems.{sum, FreedomFits, Fits}
 use Rattle.report.proofs.Bounds.{freedoms-fit}
 use Rattle.totals.specs.declared.Largest.{Largest}
 use Rattle.totals.specs.declared.Totals.{Totals}
-use Rattle.totals.specs.Totals.{freshTotals, largestAfter, addFreedom, addVerdict, addBy, addReport}
+use Rattle.totals.specs.Totals.{freshTotals, largestAfter, addFreedom, addVerdict, addReport}
 use Rattle.totals.specs.Theorems.{Handed, program, parcel, reportFor, addAll, freedomFor, freedomAt}
 use Rattle.totals.specs.Theorems.{isAccepted, countsProgram, countsContent, isFreedom, CountedExactly}
 use Rattle.totals.specs.Theorems.{LargestAt, LargestOf, Totalled, TotalsOfList}
@@ -194,7 +194,7 @@ module _ (xs : List Handed) (x : Handed) where
 
   step : (t : Totals) → Totalled xs t → length xs < 65535
       → Totalled (longer xs x) (addReport t (reportFor x) .totals)
-  unfolding addBy
+  unfolding addReport
   step t h l =
       rw (lt-ltb (t .parcels) 65535 (omega (arith, h .all-placed)))
       (subst (Totalled (longer xs x)) (sym (by-freedom t x)) (freedom-more t h l (freedomFor x) refl))

@@ -48,8 +48,6 @@ addVerdict t Verdict.Accepted freedom = addFreedom t freedom
 addVerdict t (Verdict.Refused why place) freedom = addition (passedOver t) (Added.Refused why place)
 
 -- "Over up to 65,535 parcels .. A further one .. gives the totals back as they were", whatever it is
-unfoldable pub addBy : Totals → Verdict → Freedom → Addition
-addBy t verdict freedom = cond (ltb (t .parcels) 65535) (addVerdict t verdict freedom) (addition t Added.Unchanged)
-
-abbrev pub addReport : Totals → Answer → Addition
-addReport t r = addBy t (r .verdict) (r .figures .freedom)
+unfoldable pub addReport : Totals → Answer → Addition
+addReport t r =
+    cond (ltb (t .parcels) 65535) (addVerdict t (r .verdict) (r .figures .freedom)) (addition t Added.Unchanged)

@@ -2,11 +2,12 @@
 ghost use mathlib.Core.Path.{_≡_};
 ghost use Prim.Native.Nat.{_+_, _*_, _^_, _<_};
 ghost use Rattle.report.specs.Reports.{reportOf, parcelReport};
-ghost use Rattle.totals.specs.Totals.{addition, freshTotals, addBy, addReport, addVerdict, addFreedom, counted, passedOver, largestAfter, isLarger};
+ghost use Rattle.totals.specs.Totals.{addition, freshTotals, addReport, addVerdict, addFreedom, counted, passedOver, largestAfter, isLarger};
 use answers::Place;
 use answers::Refusal;
 use answers::Verdict;
 use isa::Technique;
+use report::Answer;
 use report::Freedom;
 
 // The parcel with the largest freedom: its place, counted from 0, its distinct edges and its possible ones.
@@ -60,28 +61,23 @@ pub fn add(
 ) -> Addition
     ensures { λ r. ⌜ r ≡ addReport totals (reportOf technique (now (memory .entry)) n (now (edges .entry))) ⌝ }
 {
-    let made = report::report(technique, memory, n, edges);
-    let verdict = made.verdict;
-    let figures = made.figures;
-    let freedom = figures.freedom;
-    add_report(totals, verdict, freedom)
+    add_report(totals, report::report(technique, memory, n, edges))
 }
 
 // Reads a parcel, checks it and adds it. One that the reader refuses is a refused parcel like any other.
 pub fn add_parcel(totals: Totals, technique: Technique, parcel: &[u8]) -> Addition
     ensures { λ r. ⌜ r ≡ addReport totals (parcelReport technique (now (parcel .entry))) ⌝ }
 {
-    let made = report::report_parcel(technique, parcel);
-    let verdict = made.verdict;
-    let figures = made.figures;
-    let freedom = figures.freedom;
-    add_report(totals, verdict, freedom)
+    add_report(totals, report::report_parcel(technique, parcel))
 }
 
-// Adds a parcel by what its report says of it.
-pub fn add_report(totals: Totals, verdict: Verdict, freedom: Freedom) -> Addition
-    ensures { λ r. ⌜ r ≡ addBy totals verdict freedom ⌝ }
+// Adds what a report tells of a program or a parcel.
+pub fn add_report(totals: Totals, report: Answer) -> Addition
+    ensures { λ r. ⌜ r ≡ addReport totals report ⌝ }
 {
+    let verdict = report.verdict;
+    let figures = report.figures;
+    let freedom = figures.freedom;
     if totals.parcels < 65535 {
         return add_verdict(totals, verdict, freedom);
     }

@@ -12,4 +12,4 @@ add-spec =
     (tie.spec
     (λ c κs. search needs)
     (λ c κs. search needs)
-    (λ c. c .add-report .ensures ∙ ap (λ (r : Answer). addReport (c .before .before .before .before .before .args .totals) r) (c .before .before .report .ensures)))
+    (λ c. c .add-report .ensures ∙ ap (λ (r : Answer). addReport (c .before .before .before .before .args .totals) r) (c .before .report .ensures)))

@@ -1,10 +1,10 @@
 -- `reports::add_in` meets its contract: numbers that are totals are added to, and any others are left.
 use mathlib.Core.Path.{sym, ap, _∙_}
 use borrow.Author.Tests.{not-true, not-false}
+use borrow.Author.Needs.{needs}
 use Rattle.totals.specs.declared.Totals.{Totals}
 use Rattle.totals.specs.Totals.{addReport}
 use Rattle.capi.proofs.Figures.{are-totals, not-added, added-in}
-use borrow.Author.Needs.{needs}
 use Rattle.capi.proofs.reports.add_in.Statement.{statement}
 use Rattle.capi.proofs.reports.add_in.Tie as tie
 
@@ -22,8 +22,8 @@ add-in-spec =
     (λ c κs. search needs)
     (λ c. search needs)
     (λ c.
-    let q = c .before .before .before .before .before in
-    let r = q .before .before .before .before in
-    let made = r .before .before .before .before .args .made in
-    added-in made _ (sym (r .before .are-totals .ensures) ∙ not-false _ (r .if1 .left))
-    (q .add-report .ensures ∙ ap (λ (t : Totals). addReport t made) (q .before .totals-in .ensures)) (c .before .before .put-after .ensures)))
+    let q = c .before .before .before in
+    let r = q .before .before .before .before .before in
+    let made = r .before .before .before .args .made in
+    added-in made _ (sym (r .are-totals .ensures) ∙ not-false _ (q .before .before .before .before .if1 .left))
+    (q .add-report .ensures ∙ ap (λ (t : Totals). addReport t made) (q .before .totals-in .ensures)) (c .before .before .put-addition .ensures)))

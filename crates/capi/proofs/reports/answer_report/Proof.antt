@@ -1,5 +1,4 @@
--- `reports::answer_report` meets its contract: each return by the verdict.
-use mathlib.Core.Path.{refl, _∙_}
+-- `reports::answer_report` meets its contract: what it calls, put together.
 use borrow.Author.Needs.{needs}
 use Rattle.capi.proofs.Figures.{report-done}
 use Rattle.capi.proofs.reports.answer_report.Statement.{statement}
@@ -9,19 +8,8 @@ pub answer-report-spec : {M : Type 1} → statement M
 answer-report-spec =
     tie.close
     (tie.spec
-    (λ c. search needs)
-    (λ c κs. search needs)
-    (λ c κs. search needs)
-    (λ c. search needs)
-    (λ c κs. search needs)
     (λ c κs. search needs)
     (λ c κs. search needs)
     (λ c. search needs)
     (λ c. search needs)
-    (λ c.
-    let q = c .before .before .before .before .before .before .before .before in
-    report-done (q .before .before .before .before .pre) (q .enum-told .given .1) refl (c .before .before .before .before .before .before .put-figures .ensures) (c .before .before .put-place .ensures))
-    (λ c. search needs)
-    (λ c.
-    let q = c .before .before .before .before .before .before .before in
-    report-done (q .before .before .before .before .pre) (q .verdict .given .1) (c .wide8 .ensures ∙ c .before .number .ensures) refl (c .before .before .before .before .put-place2 .ensures)))
+    (λ c. report-done (c .before .before .before .before .before .before .before .before .before .before .pre) (c .before .before .before .before .before .before .put-accepted .ensures) (c .before .before .put-verdict .ensures)))
