@@ -23,7 +23,7 @@ fn main() {
         stop(2, &format!("no parcel is named\n{USAGE}"));
     }
 
-    let mut totals = Totals::new();
+    let mut totals = Totals::fresh();
     let mut counted = 0;
     for (place, path) in paths.iter().enumerate() {
         let parcel = std::fs::read(path).unwrap_or_else(|error| stop(1, &format!("{path}: {error}")));

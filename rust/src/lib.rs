@@ -673,7 +673,7 @@ pub struct Largest {
 ///     Illegal,
 /// ];
 /// let memory = code.map(encode).to_vec();
-/// let mut totals = Totals::new();
+/// let mut totals = Totals::fresh();
 ///
 /// // place 0: the edge that it claims starts at no jump
 /// let Added::Refused(fault) = totals.add(Technique::Plain, &memory, 8, &[4, 6]) else { panic!() };
@@ -683,9 +683,9 @@ pub struct Largest {
 /// assert_eq!((totals.parcels, totals.largest), (2, None));
 ///
 /// // places 2 and 3: one edge of eight, as a program and as a parcel
-/// assert_eq!(totals.add(Technique::Plain, &memory, 8, &[5, 6]), Added::Counted);
-/// let parcel = Program { memory, code_words: 8, edges: vec![5, 6] }.to_parcel().unwrap();
-/// assert_eq!(totals.add_parcel(Technique::Plain, &parcel), Added::Counted);
+/// let program = Program { memory, code_words: 8, edges: vec![5, 6] };
+/// assert_eq!(totals.add_program(Technique::Plain, &program), Added::Counted);
+/// assert_eq!(totals.add_parcel(Technique::Plain, &program.to_parcel().unwrap()), Added::Counted);
 /// assert_eq!((totals.parcels, totals.edges, totals.possible), (4, 2, 16));
 /// assert_eq!(totals.largest, Some(Largest { parcel: 2, freedom: Freedom { edges: 1, possible: 8 } }));
 /// ```
@@ -716,7 +716,7 @@ pub enum Added {
 impl Totals {
     /// Fresh totals, over no parcels.
     #[inline]
-    pub fn new() -> Totals {
+    pub fn fresh() -> Totals {
         Totals::default()
     }
 
@@ -726,6 +726,12 @@ impl Totals {
         let (mut totals, mut place) = (self.numbers(), [0u64; 2]);
         let number = calls::add_report(technique.number(), memory, n, edges, &mut totals, &mut place);
         self.take(number, &totals, place)
+    }
+
+    /// The same of a [`Program`].
+    #[inline]
+    pub fn add_program(&mut self, technique: Technique, program: &Program) -> Added {
+        self.add(technique, &program.memory, program.code_words, &program.edges)
     }
 
     /// The same of a parcel, which is read first. One that cannot be read is passed over like any other refused one.

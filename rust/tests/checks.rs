@@ -4,7 +4,7 @@
 mod reference;
 mod common;
 
-use common::{accepted, damage, Program, Random};
+use common::{accepted, damage, number_of, Program, Random};
 use post_guard::raw;
 use reference::{checkers, Technique, TECHNIQUES};
 
@@ -26,13 +26,6 @@ fn told(p: &Program) -> String {
         return format!("{p:x?}");
     }
     format!("n {}, {} words, {} edge numbers", p.n, p.memory.len(), p.edges.len())
-}
-
-fn number_of(technique: Technique) -> u8 {
-    match technique {
-        Technique::Plain => 0,
-        Technique::MemoryGuards => 1,
-    }
 }
 
 fn many(technique: Technique, seed: u64) {

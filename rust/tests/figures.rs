@@ -5,25 +5,11 @@
 mod reference;
 mod common;
 
-use common::{accepted, damage, padded, repeat_edges, without_jumps, Program, Random};
+use common::{accepted, damage, library, number_of, padded, parcel_of, repeat_edges, without_jumps, Program, Random};
 use post_guard::{raw, Fault, Freedom, Kind, Place};
 use reference::figures::{self, Figures, Report};
 use reference::{encode, Op, Technique, TECHNIQUES};
 use std::collections::HashSet;
-
-fn library(technique: Technique) -> post_guard::Technique {
-    match technique {
-        Technique::Plain => post_guard::Technique::Plain,
-        Technique::MemoryGuards => post_guard::Technique::MemoryGuards,
-    }
-}
-
-fn number_of(technique: Technique) -> u8 {
-    match technique {
-        Technique::Plain => 0,
-        Technique::MemoryGuards => 1,
-    }
-}
 
 fn numbers(figures: Figures) -> [u64; 14] {
     let (edges, possible) = figures.freedom.unwrap_or((0, 0));
@@ -200,14 +186,6 @@ fn plain_programs() {
 #[test]
 fn programs_with_memory_guards() {
     many(Technique::MemoryGuards, 42);
-}
-
-/// the parcel of a program, or none where its shape has no parcel
-fn parcel_of(p: &Program) -> Option<Vec<u8>> {
-    let mut parcel = vec![0; 40_972];
-    let size = reference::write_parcel(&p.memory, p.n, &p.edges, &mut parcel).ok()?;
-    parcel.truncate(size);
-    Some(parcel)
 }
 
 /// cuts a parcel, makes it longer, or changes the count of a section or any bit

@@ -4,7 +4,7 @@
 mod reference;
 mod common;
 
-use common::{accepted, damage, padded, repeat_edges, without_jumps, Program, Random};
+use common::{accepted, damage, library, number_of, padded, parcel_of, repeat_edges, without_jumps, Program, Random};
 use post_guard::{raw, Fault, Freedom, Place};
 use reference::figures::{self, Report};
 use reference::totals::{self, Added};
@@ -24,25 +24,9 @@ struct Item {
 
 impl Item {
     fn new(technique: Technique, program: Program) -> Item {
-        let mut parcel = vec![0; 40_972];
-        let size = reference::write_parcel(&program.memory, program.n, &program.edges, &mut parcel);
-        parcel.truncate(size.unwrap_or(0));
+        let parcel = parcel_of(&program).unwrap_or_default();
         let report = figures::report(technique, &program.memory, program.n, &program.edges);
         Item { technique, program, parcel, report }
-    }
-
-    fn number(&self) -> u8 {
-        match self.technique {
-            Technique::Plain => 0,
-            Technique::MemoryGuards => 1,
-        }
-    }
-
-    fn library(&self) -> post_guard::Technique {
-        match self.technique {
-            Technique::Plain => post_guard::Technique::Plain,
-            Technique::MemoryGuards => post_guard::Technique::MemoryGuards,
-        }
     }
 
     fn freedom(&self) -> Option<(u64, u64)> {
@@ -74,9 +58,9 @@ impl Item {
     fn call(&self, by_parcel: bool, totals: &mut [u64], place: &mut [u64]) -> u32 {
         let Program { memory, n, edges } = &self.program;
         if by_parcel {
-            raw::add_parcel(self.number(), &self.parcel, totals, place)
+            raw::add_parcel(number_of(self.technique), &self.parcel, totals, place)
         } else {
-            raw::add_report(self.number(), memory, *n, edges, totals, place)
+            raw::add_report(number_of(self.technique), memory, *n, edges, totals, place)
         }
     }
 
@@ -85,9 +69,9 @@ impl Item {
         let Some(mut totals) = wrapped(before) else { return };
         let Program { memory, n, edges } = &self.program;
         let added = if by_parcel {
-            totals.add_parcel(self.library(), &self.parcel)
+            totals.add_parcel(library(self.technique), &self.parcel)
         } else {
-            totals.add(self.library(), memory, *n, edges)
+            totals.add(library(self.technique), memory, *n, edges)
         };
         let (answer, after, place) = expected;
         assert_eq!(told(added), (answer, place), "{before:?}");
@@ -497,6 +481,6 @@ fn places_too_short() {
 
 #[test]
 fn fresh_totals_are_zeros() {
-    assert_eq!(Some(post_guard::Totals::new()), wrapped([0; 6]));
-    assert_eq!(post_guard::Totals::new(), post_guard::Totals::default());
+    assert_eq!(Some(post_guard::Totals::fresh()), wrapped([0; 6]));
+    assert_eq!(post_guard::Totals::fresh(), post_guard::Totals::default());
 }

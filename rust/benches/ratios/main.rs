@@ -381,7 +381,7 @@ impl Addition {
         let program = guard::Program { memory: program.memory, code_words: program.n, edges: program.edges };
         let mut addition = Addition {
             parcel: program.to_parcel().unwrap_or_default(),
-            totals: guard::Totals::new(),
+            totals: guard::Totals::fresh(),
             plain_totals: totals::Totals::default(),
         };
         (addition.totals, addition.plain_totals) = (addition.added(), addition.plain_added());

@@ -1,7 +1,23 @@
 //! Random inputs with fixed seeds: words, and programs that are accepted before they are damaged.
 #![allow(dead_code)]
 
-use crate::reference::{encode, Op, Technique};
+use crate::reference::{encode, write_parcel, Op, Technique};
+
+/// a technique's number, as C has it
+pub fn number_of(technique: Technique) -> u8 {
+    match technique {
+        Technique::Plain => 0,
+        Technique::MemoryGuards => 1,
+    }
+}
+
+/// a technique as the wrapper has it
+pub fn library(technique: Technique) -> post_guard::Technique {
+    match technique {
+        Technique::Plain => post_guard::Technique::Plain,
+        Technique::MemoryGuards => post_guard::Technique::MemoryGuards,
+    }
+}
 
 /// A xorshift generator.
 pub struct Random(u64);
@@ -230,6 +246,14 @@ pub fn repeat_edges(r: &mut Random, p: &mut Program) {
         let edge = [p.edges[from], p.edges[from + 1]];
         p.edges.splice(to..to, edge);
     }
+}
+
+/// The parcel of a program, or none where its shape has no parcel.
+pub fn parcel_of(p: &Program) -> Option<Vec<u8>> {
+    let mut parcel = vec![0; 40_972];
+    let size = write_parcel(&p.memory, p.n, &p.edges, &mut parcel).ok()?;
+    parcel.truncate(size);
+    Some(parcel)
 }
 
 /// Damages a program in one place, in one of many ways.
