@@ -1,7 +1,8 @@
-/* Post guard for C and C++: the calls of libcapi.a.
+/* Post guard for C and C++: the calls of libpost_guard.a.
  *
- * Build the library with `rt staticlib capi` and link target/staticlib/libcapi.a. It needs nothing but memcpy, memmove and memset.
- * Every call is proved to meet its contract, which is in crates/capi/src/lib.rt; this page says the same in plain words.
+ * Build the library with `tools/library` and link target/staticlib/libpost_guard.a. It needs nothing but memcpy, memmove and memset.
+ * Every call is proved to meet its contract, which is in crates/capi/src/lib.rt or, for figures and totals, in
+ * crates/owner/src/lib.rt; this page says the same in plain words.
  * docs/REFERENCE.md has the rest: instructions, steps, what the check asks, the parcel, and for each number what to do about it.
  *
  * Common to all calls:

@@ -1,6 +1,6 @@
 /* A gateway's day: read a parcel, check it, say how tightly it is held, run it with bus writes in between, and say what happened.
  *
- *     cc -std=c11 -Iinclude examples/c/gateway.c target/staticlib/libcapi.a -o gateway
+ *     cc -std=c11 -Iinclude examples/c/gateway.c target/staticlib/libpost_guard.a -o gateway
  *     ./gateway            the post program of docs/REFERENCE.md
  *     ./gateway FILE       a parcel of your own */
 #include <stdio.h>

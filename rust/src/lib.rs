@@ -36,8 +36,9 @@
 //! The functions are thin, and `#[inline]`: a call costs what the library's call costs.
 //!
 //! No function here panics, and none has a precondition: any numbers may be passed. The proved contract of each call is in
-//! `crates/capi/src/lib.rt`; the only unsafe code, in `calls.rs`, hands slices over to it. Instructions, steps, what a check
-//! asks, the parcel and every number are explained in docs/REFERENCE.md of the repository.
+//! `crates/capi/src/lib.rt` or, for figures and totals, in `crates/owner/src/lib.rt`; the only unsafe code, in `calls.rs`, hands
+//! slices over to them. Instructions, steps, what a check asks, the parcel and every number are explained in docs/REFERENCE.md
+//! of the repository.
 
 mod calls;
 

@@ -2,5 +2,4 @@ pub mod Words
 pub mod States
 pub mod Checks
 pub mod Parcels
-pub mod Figures
 pub mod Unchanged

@@ -1,16 +1,12 @@
 -- Refused calls change nothing: the words of a state, put back where they came from, are the same words.
 use Prim.Native.Nat.{ℕ}
 use mathlib.Core.Path.{_≡_, refl, ap, _∙_}
-use mathlib.Core.Bool.{Bool, true, false, cond, _&&_, _||_}
+use mathlib.Core.Bool.{Bool, true, false, cond, _&&_}
 use mathlib.Core.List.{List}
 use lib.ListN.{length, set}
 use borrow.Author.Tests.{ltb-false}
 use Rattle.answers.specs.declared.Refusal.{Refusal}
 use Rattle.answers.specs.Shape.{memoryShaped}
-use Rattle.answers.specs.declared.Verdict.{Verdict}
-use Rattle.report.specs.declared.Answer.{Answer}
-use Rattle.totals.specs.declared.Added.{Added}
-use Rattle.totals.specs.Totals.{addReport}
 use Rattle.machine.specs.declared.State.{State}
 use Rattle.machine.specs.declared.Outcome.{Outcome}
 use Rattle.machine.specs.declared.Written.{Written}
@@ -23,8 +19,6 @@ use Rattle.machine.proofs.Theorems.{unmade-changes-nothing}
 use Rattle.machine.proofs.Lent.{put-back}
 use Rattle.lists.specs.Places.{shorter, putOver}
 use Rattle.capi.specs.States.{techniqueOf, StepCall, RunCall, WriteDataCall, WriteRegisterCall}
-use Rattle.capi.specs.Checks.{verdictNumber}
-use Rattle.capi.specs.Reports.{figuresAfter, totalsIn, totalsAfter, addedTo, ReportCall, AddCall}
 use Rattle.capi.specs.Theorems.{RefusedChangesNothing}
 
 same-state : (words : List ℕ) (s : State) → shorter words 33 ≡ false → s ≡ stateIn words → putOver (wordsOf s) words ≡ words
@@ -80,36 +74,6 @@ write-register-unchanged state register word r state′ call refused = go (short
     go false e true f = absurd (refused (rw (e, f) at (call .answer)))
     go false e false f = (rw (e, f) at (call .state-after)) ∙ put-back state (ltb-false _ _ e)
 
-report-unchanged :
-    (report : Answer) (figures place : List ℕ) (r : ℕ) (figures′ place′ : List ℕ) → ReportCall report figures place r figures′ place′
-    → (r ≡ 0 → ⊥) → figures′ ≡ figures
-report-unchanged report figures place r figures′ place′ call refused = go (shorter figures 14 || shorter place 2) refl
-  where
-    by : (v : Verdict) → r ≡ verdictNumber v → figures′ ≡ figuresAfter v (report .figures) figures → figures′ ≡ figures
-    by Verdict.Accepted e f = absurd (refused e)
-    by (Verdict.Refused why at) e f = f
-
-    go : (b : Bool) → (shorter figures 14 || shorter place 2) ≡ b → figures′ ≡ figures
-    go true e = rw e at (call .figures-after)
-    go false e = by (report .verdict) (rw e at (call .answer)) (rw e at (call .figures-after))
-
-add-unchanged :
-    (report : Answer) (words place : List ℕ) (r : ℕ) (words′ place′ : List ℕ) → AddCall report words place r words′ place′
-    → addedTo words report ≡ Added.Unchanged → words′ ≡ words
-add-unchanged report words place r words′ place′ call full = go (shorter words 6 || shorter place 2) refl
-  where
-    go : (b : Bool) → (shorter words 6 || shorter place 2) ≡ b → words′ ≡ words
-    go true e = rw e at (call .totals-after)
-    go false e = (rw e at (call .totals-after)) ∙ ap (λ (x : Added). totalsAfter x (addReport (totalsIn words) report .totals) words) full
-
 pub refused-changes-nothing : RefusedChangesNothing
 refused-changes-nothing =
-    record {
-      step = step-unchanged;
-      run = run-unchanged;
-      write-data = write-data-unchanged;
-      write-register = write-register-unchanged;
-      report = report-unchanged;
-      add = add-unchanged;
-      add-short = λ report words place r words′ place′ call short. (rw short at (call .totals-after), rw short at (call .place-after));
-    }
+    record { step = step-unchanged; run = run-unchanged; write-data = write-data-unchanged; write-register = write-register-unchanged }

@@ -26,6 +26,15 @@ abbrev pub verdictPlace : Verdict → Place
 verdictPlace Verdict.Accepted = Place.Nowhere
 verdictPlace (Verdict.Refused refusal place) = place
 
+-- a place put where there is room for it
+abbrev pub placeAfter : Place → List ℕ → List ℕ
+placeAfter at place = cond (shorter place 2) place (putOver (placeNumbers at) place)
+
+-- the contract of `put_verdict`: the number r of a verdict, and the place that the call leaves
+pub record VerdictPut (verdict : Verdict) (place : List ℕ) (r : ℕ) (place′ : List ℕ) : Type 0 where
+  pub answer : r ≡ verdictNumber verdict
+  pub place-after : place′ ≡ placeAfter (verdictPlace verdict) place
+
 -- the contract of `pg_check`: its answer r, and the place that it leaves
 pub record CheckCall (technique : ℕ) (memory : List ℕ) (n : ℕ) (edges place : List ℕ) (r : ℕ) (place′ : List ℕ) : Type 0 where
   pub answer : r ≡ cond (shorter place 2) tooShort (verdictNumber (verdictOf (techniqueOf technique) memory n edges))

@@ -1,7 +1,6 @@
 pub mod Words
 pub mod States
-pub mod Checks
-pub mod Reports
 pub mod Inside
+pub mod Checks
 pub mod Parcels
 pub mod Theorems

@@ -1,15 +1,11 @@
 -- What the header says of the calls that can be refused: they change nothing then. `proofs/Unchanged.antt` has the proofs.
 use Prim.Native.Nat.{ℕ}
 use mathlib.Core.Path.{_≡_}
-use mathlib.Core.Bool.{true, false, _||_}
+use mathlib.Core.Bool.{false}
 use mathlib.Core.List.{List}
 use lib.ListN.{length}
-use Rattle.lists.specs.Places.{shorter}
 use Rattle.answers.specs.Shape.{memoryShaped}
-use Rattle.report.specs.declared.Answer.{Answer}
-use Rattle.totals.specs.declared.Added.{Added}
 use Rattle.capi.specs.States.{StepCall, RunCall, WriteDataCall, WriteRegisterCall}
-use Rattle.capi.specs.Reports.{addedTo, ReportCall, AddCall}
 
 pub record RefusedChangesNothing : Type 0 where
   -- a step that is not made: a stop, 5 or 6
@@ -27,14 +23,3 @@ pub record RefusedChangesNothing : Type 0 where
   pub write-register :
       (state : List ℕ) (register word r : ℕ) (state′ : List ℕ) → WriteRegisterCall state register word r state′ → (r ≡ 0 → ⊥)
       → state′ ≡ state
-  -- a report with a number: the figures are as they were
-  pub report :
-      (report : Answer) (figures place : List ℕ) (r : ℕ) (figures′ place′ : List ℕ) → ReportCall report figures place r figures′ place′
-      → (r ≡ 0 → ⊥) → figures′ ≡ figures
-  -- totals that are full, whose sum would not fit, or that are none; and a place that is too short
-  pub add :
-      (report : Answer) (words place : List ℕ) (r : ℕ) (words′ place′ : List ℕ) → AddCall report words place r words′ place′
-      → addedTo words report ≡ Added.Unchanged → words′ ≡ words
-  pub add-short :
-      (report : Answer) (words place : List ℕ) (r : ℕ) (words′ place′ : List ℕ) → AddCall report words place r words′ place′
-      → (shorter words 6 || shorter place 2) ≡ true → (words′ ≡ words) × (place′ ≡ place)

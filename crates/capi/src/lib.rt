@@ -1,19 +1,17 @@
 // The calls for C and Rust: numbers and slices, a slice as its pointer and its length. `include/post_guard.h` declares them.
 ghost use mathlib.Core.Path.{_≡_};
+ghost use mathlib.Core.Bool.{cond};
 ghost use Prim.Native.Nat.{_≤_};
 ghost use lib.ListN.{length};
 ghost use mathlib.Core.List.{[], _∷_};
 ghost use Rattle.machine.specs.Numbers.{endingNumber, writtenNumber};
-ghost use Rattle.lists.specs.Places.{putOver};
+ghost use Rattle.lists.specs.Places.{shorter, putOver};
 ghost use Rattle.capi.specs.Words.{DecodeCall, encodeCall};
 ghost use Rattle.capi.specs.States.{techniqueOf, StepCall, RunCall, WriteDataCall, WriteRegisterCall};
-ghost use Rattle.capi.specs.Inside.{Ordered, RunNumber, VerdictPut};
-ghost use Rattle.capi.specs.Checks.{placeNumbers, CheckCall};
+ghost use Rattle.capi.specs.Inside.{Ordered, RunNumber};
+ghost use Rattle.capi.specs.Checks.{placeAfter, VerdictPut, CheckCall};
 ghost use Rattle.parcel.specs.Parcel.{readOf, countsOf};
 ghost use Rattle.capi.specs.Parcels.{readNumber, noPlace, ReadCall, WriteCall};
-
-mod reports;
-
 use answers::Place;
 use answers::Verdict;
 use isa::Technique;
@@ -180,7 +178,7 @@ fn run_number(order: u32, state: &mut [u64], memory: &mut [u64], n: usize) -> u6
     wide16(ended.count) * 0x1_0000_0000 + wide32(ending_number(ending))
 }
 
-pub(crate) fn technique_of(number: u8) -> Technique
+pub fn technique_of(number: u8) -> Technique
     ensures { λ r. ⌜ r ≡ techniqueOf number ⌝ }
 {
     if number == 0 {
@@ -202,9 +200,8 @@ fn put_fields(place: &mut [u32], opcode: u8, a: u8, b: u8, c: u8, w: u32)
     place[4] = w;
 }
 
-// The answer to a verdict, its place put down.
-pub(crate) fn put_verdict(place: &mut [u64], verdict: Verdict) -> u32
-    requires { ⌜ 2 ≤ length (now place) ⌝ }
+// The answer to a verdict, and its place put down.
+pub fn put_verdict(place: &mut [u64], verdict: Verdict) -> u32
     ensures { λ r. ⌜ VerdictPut verdict (now (place .entry)) r (now (place .exit)) ⌝ }
 {
     match verdict {
@@ -219,10 +216,9 @@ pub(crate) fn put_verdict(place: &mut [u64], verdict: Verdict) -> u32
     }
 }
 
-// Which kind of place it is, and the place.
-pub(crate) fn put_place(place: &mut [u64], at: Place)
-    requires { ⌜ 2 ≤ length (now place) ⌝ }
-    ensures { λ _. ⌜ now (place .exit) ≡ putOver (placeNumbers at) (now (place .entry)) ⌝ }
+// Which kind of place it is, and the place, where there is room for the two numbers.
+pub fn put_place(place: &mut [u64], at: Place)
+    ensures { λ _. ⌜ now (place .exit) ≡ placeAfter at (now (place .entry)) ⌝ }
 {
     match at {
         Place::Edge(k) => put_pair(place, 1, k as u64),
@@ -232,9 +228,11 @@ pub(crate) fn put_place(place: &mut [u64], at: Place)
 }
 
 fn put_pair(place: &mut [u64], x: u64, y: u64)
-    requires { ⌜ 2 ≤ length (now place) ⌝ }
-    ensures { λ _. ⌜ now (place .exit) ≡ putOver (x ∷ y ∷ []) (now (place .entry)) ⌝ }
+    ensures { λ _. ⌜ now (place .exit) ≡ cond (shorter (now (place .entry)) 2) (now (place .entry)) (putOver (x ∷ y ∷ []) (now (place .entry))) ⌝ }
 {
+    if place.len() < 2 {
+        return;
+    }
     place[0] = x;
     place[1] = y;
 }
@@ -283,19 +281,19 @@ fn written_number(written: Written) -> u32
     }
 }
 
-pub(crate) fn wide8(x: u8) -> u32
+pub fn wide8(x: u8) -> u32
     ensures { λ r. ⌜ r ≡ x ⌝ }
 {
     x as u32
 }
 
-pub(crate) fn wide32(x: u32) -> u64
+pub fn wide32(x: u32) -> u64
     ensures { λ r. ⌜ r ≡ x ⌝ }
 {
     x as u64
 }
 
-pub(crate) fn wide16(x: u16) -> u64
+pub fn wide16(x: u16) -> u64
     ensures { λ r. ⌜ r ≡ x ⌝ }
 {
     x as u64

@@ -14,6 +14,7 @@ use Rattle.report.proofs.Examples.{reports-shown}
 use Rattle.totals.proofs.Lists.{counted-exactly, totals-of-list}
 use Rattle.totals.proofs.Examples.{totals-shown}
 use Rattle.capi.proofs.Unchanged.{refused-changes-nothing}
+use Rattle.owner.proofs.Unchanged.{refused-reports-change-nothing}
 use Rattle.promises.specs.Promises.{Promises}
 
 pub kept : Promises
@@ -36,6 +37,7 @@ kept =
       kinds-add-up = kinds-add-up;
       counted-exactly = counted-exactly;
       totals-of-list = totals-of-list;
+      refused-reports-change-nothing = refused-reports-change-nothing;
       reports-shown = reports-shown;
       totals-shown = totals-shown;
       rows = table;

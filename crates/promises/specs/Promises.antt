@@ -21,6 +21,7 @@ use Rattle.report.specs.Examples.{ReportsShown}
 use Rattle.totals.specs.Theorems.{CountedExactly, TotalsOfList}
 use Rattle.totals.specs.Examples.{TotalsShown}
 use Rattle.capi.specs.Theorems.{RefusedChangesNothing}
+use Rattle.owner.specs.Theorems.{RefusedReportsChangeNothing}
 
 pub record Promises : Type 0 where
   -- Instruction words, written and read, give back each other.
@@ -55,6 +56,8 @@ pub record Promises : Type 0 where
   -- have a jump, and the largest is the first whose freedom no other's passes, or none.
   pub counted-exactly : CountedExactly
   pub totals-of-list : TotalsOfList
+  -- A report or an addition from C or Rust that is refused leaves figures and totals as they were.
+  pub refused-reports-change-nothing : RefusedReportsChangeNothing
   -- Those too are about something: reports and totals of the post program.
   pub reports-shown : ReportsShown
   pub totals-shown : TotalsShown
