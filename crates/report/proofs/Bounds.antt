@@ -1,5 +1,5 @@
 -- A freedom's numbers are small: at most n edges from each of n addresses, and at most n jumps.
-use Prim.Native.Nat.{ℕ, zero, suc, _*_, _≤_}
+use Prim.Native.Nat.{ℕ, _*_, _≤_}
 use mathlib.Core.Path.{_≡_, refl, ap}
 use mathlib.Core.Bool.{Bool, true, false, cond}
 use mathlib.Core.List.{List, _++_}
@@ -18,16 +18,12 @@ use Rattle.graph.specs.Passes.{Sized}
 use Rattle.checker.specs.Verdicts.{verdictOf}
 use Rattle.parcel.specs.Parcel.{Content, holds, refused, readOf}
 use Rattle.report.specs.declared.Freedom.{Freedom}
-use Rattle.report.specs.Figures.{setSize, total, wordsOfKind, distinctEdges, freedomBy, numeratorOf, denominatorOf, figuresOf}
+use Rattle.report.specs.Figures.{setSize, wordsOfKind, distinctEdges, freedomBy, numeratorOf, denominatorOf, figuresOf}
 use Rattle.report.specs.Reports.{reportBy, reportOf, contentReport}
 use Rattle.report.specs.Theorems.{FreedomFits, Fits, FreedomsFit}
 use Rattle.report.proofs.Held.{held}
 use Rattle.report.proofs.ByKind.{kind-max}
-
-total-max : (f : ℕ → ℕ) (b : ℕ) → ((k : ℕ) → f k ≤ b) → (n : ℕ) → total f n ≤ n * b
-unfolding total
-total-max f b h zero = omega arith
-total-max f b h (suc n) = let i = total-max f b h n in let k = h n in omega arith
+use Rattle.report.proofs.Sums.{total-max}
 
 size-max : (edges : List ℕ) (n j : ℕ) → setSize edges n j ≤ n
 unfolding setSize

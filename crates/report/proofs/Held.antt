@@ -1,14 +1,14 @@
 -- What the passes rely on follows from the checker's acceptance: jumps have edges and edges start at jumps (7, 9); the movi of a
--- jump's guard has its ID (14); an address is a target of j exactly where its label is j's ID, since labels stand at destinations
--- with their set's ID (12) and two sets with an address in common are equal (10).
+-- jump's guard has its ID (14); an address is a target of j exactly where its label is j's ID, since labels stand at destinations,
+-- with their set's ID (12), and two sets with an address in common are equal (10).
 use Prim.Native.Nat.{ℕ, _+_, _-_, _%_, _^_, _≤_, _<_}
 use mathlib.Core.Path.{_≡_, refl, sym, ap, subst, _∙_}
-use mathlib.Core.Bool.{Bool, true, false, cond}
+use mathlib.Core.Bool.{Bool, true, false}
 use mathlib.Core.List.{List}
 use native.Mathlib.Omega.{arith}
 use lib.ListN.{length, getD}
-use lib.Dec.{eqb, ltb, leb}
-use borrow.Author.Tests.{eq-eqb, eqb-true, lt-ltb, le-ltb, not-false}
+use lib.Dec.{eqb, leb}
+use borrow.Author.Tests.{eq-eqb, eqb-true, not-false}
 use Rattle.lists.proofs.Bools.{and-left, and-right, and-rest, or-right, same-bool}
 use Rattle.answers.specs.declared.Verdict.{Verdict}
 use Rattle.answers.specs.Shape.{memoryShaped, edgesShaped}
@@ -29,7 +29,7 @@ use Rattle.checker.proofs.Listed.{edge-listed, listed-edge, has-listed, id-foun
 use Rattle.checker.proofs.Readings.{jump-instr}
 use Rattle.checker.proofs.Faultless.{Faultless, accepted-faultless}
 use Rattle.checker.proofs.Equivalence.{accepted-exactly}
-use Rattle.report.specs.Inside.{numberOr, classAt, Held}
+use Rattle.report.specs.Inside.{numberOr, labelAt, Held}
 
 module _ (t : Technique) (memory : List ℕ) (n : ℕ) (edges : List ℕ) (e : verdictOf t memory n edges ≡ Verdict.Accepted) where
   clean : Faultless t memory n edges
@@ -80,39 +80,45 @@ module _ (t : Technique) (memory : List ℕ) (n : ℕ) (edges : List ℕ) (e : v
       let e = guard-movi j l h .1 in
       sym (ap (λ (i : Instr). fieldsOf i .w) (kind-decode Kind.Movi refl (getD memory (j - 3) 0) (ap (isKind Kind.Movi) e))) ∙ ap (λ (i : Instr). fieldsOf i .w) e
 
-  -- the class of a label is its number, and that of any other word its address
-  class-label : (a w : ℕ) → instrAt memory a ≡ Instr.Label w → w < n → classAt memory n a ≡ w
-  class-label a w h l =
-      ap (λ (i : Instr). cond (ltb (numberOr n (labelNumber i)) n) (numberOr n (labelNumber i)) a) h ∙ rw (lt-ltb w n l)
+  -- a target's label has its set's ID, and a label with that number stands at a target
+  target-label : (j a : ℕ) → Listed edges j a → labelAt memory n a ≡ idOf edges n j
+  target-label j a m =
+      ap (λ (i : Instr). numberOr n (labelNumber i)) (met .instrumented .destinations-labelled j a (idOf edges n j) m (has-id j a m))
 
-  class-own : (a : ℕ) → isKind Kind.Label (instrAt memory a) ≡ false → classAt memory n a ≡ a
-  class-own a h = rw (no-label (instrAt memory a) h, le-ltb n n (omega arith))
+  no-number : (a : ℕ) → isKind Kind.Label (instrAt memory a) ≡ false → labelAt memory n a ≡ n
+  no-number a h = ap (numberOr n) (no-label (instrAt memory a) h)
 
-  target-class : (j a : ℕ) → Listed edges j a → classAt memory n a ≡ idOf edges n j
-  target-class j a m =
-      class-label a (idOf edges n j) (met .instrumented .destinations-labelled j a (idOf edges n j) m (has-id j a m)) (id-low j a m)
+  destination : (a : ℕ) → a < n → isKind Kind.Label (instrAt memory a) ≡ true → (j : ℕ) × Listed edges j a
+  destination a l k = met .instrumented .labels-at-destinations a (fieldsOf (instrAt memory a) .w) l (of-kind Kind.Label (instrAt memory a) k)
 
-  class-target : (j b a : ℕ) → Listed edges j b → a < n → classAt memory n a ≡ idOf edges n j → Listed edges j a
-  class-target j b a m l h = go (isKind Kind.Label (instrAt memory a)) refl
+  label-target : (j b a : ℕ) → Listed edges j b → a < n → labelAt memory n a ≡ idOf edges n j → Listed edges j a
+  label-target j b a m l h = go (isKind Kind.Label (instrAt memory a)) refl
     where
       its : Listed edges j (idOf edges n j)
       its = has-id j b m .member
 
       go : (x : Bool) → isKind Kind.Label (instrAt memory a) ≡ x → Listed edges j a
       go true k =
-          let v = met .instrumented .labels-at-destinations a (fieldsOf (instrAt memory a) .w) l (of-kind Kind.Label (instrAt memory a) k) in
+          let v = destination a l k in
           let i = v .0 in
-          let same : idOf edges n i ≡ idOf edges n j = sym (target-class i a (v .1)) ∙ h in
+          let same : idOf edges n i ≡ idOf edges n j = sym (target-label i a (v .1)) ∙ h in
           let shared : Listed edges i (idOf edges n j) = subst (λ (x : ℕ). Listed edges i x) same (has-id i a (v .1) .member) in
           met .graph .sets-equal-or-apart i j (idOf edges n j) shared its a (v .1)
-      go false k = subst (λ (x : ℕ). Listed edges j x) (sym h ∙ class-own a k) its
+      go false k = absurd (omega (arith, no-number a k, h, id-low j b m))
 
-  class-edge : (j a : ℕ) → hasEdge edges j ≡ true → a < n → isEdge edges j a ≡ eqb (classAt memory n a) (idOf edges n j)
-  class-edge j a h l =
+  label-edge : (j a : ℕ) → hasEdge edges j ≡ true → a < n → isEdge edges j a ≡ eqb (labelAt memory n a) (idOf edges n j)
+  label-edge j a h l =
       let v = has-listed edges j h in
       same-bool _ _
-      (λ x. eq-eqb _ _ (target-class j a (edge-listed edges j a x)))
-      (λ x. listed-edge edges j a (class-target j (v .0) a (v .1) l (eqb-true _ _ x)))
+      (λ x. eq-eqb _ _ (target-label j a (edge-listed edges j a x)))
+      (λ x. listed-edge edges j a (label-target j (v .0) a (v .1) l (eqb-true _ _ x)))
+
+  label-used : (a : ℕ) → a < n → labelAt memory n a < n → (j : ℕ) × (isEdge edges j a ≡ true)
+  label-used a l low = go (isKind Kind.Label (instrAt memory a)) refl
+    where
+      go : (x : Bool) → isKind Kind.Label (instrAt memory a) ≡ x → (j : ℕ) × (isEdge edges j a ≡ true)
+      go true k = let v = destination a l k in (v .0, listed-edge edges (v .0) a (v .1))
+      go false k = absurd (omega (arith, no-number a k))
 
   pub held : Held memory n edges
   held =
@@ -125,5 +131,6 @@ module _ (t : Technique) (memory : List ℕ) (n : ℕ) (edges : List ℕ) (e : v
         jumps = jump-edge;
         guarded = λ j l h. guard-movi j l h .0;
         ids = guard-id;
-        classes = class-edge;
+        labels = label-edge;
+        used = label-used;
       }

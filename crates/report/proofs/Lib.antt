@@ -1,3 +1,4 @@
+pub mod Sums
 pub mod Held
 pub mod ByKind
 pub mod Sets

@@ -1,185 +1,133 @@
--- Target sets by number: the set of each jump from its guard, the size of each set from the labels, and which sets are new.
-use Prim.Native.Nat.{ℕ, zero, suc, max, _+_, _-_, _%_, _^_, _<_, _≤_}
-use mathlib.Core.Path.{_≡_, refl, sym, ap, ap₂, _∙_}
-use mathlib.Core.Bool.{Bool, true, false, not, cond, _&&_, _||_, Bool·beq}
+-- Target sets by their IDs: the labels with an ID are the targets of each jump that has it, so the sum over jumps is a sum over IDs,
+-- the largest set is the most frequent label, and there are as many sets as different IDs.
+use Prim.Native.Nat.{ℕ, _+_, _-_, _*_, _%_, _^_, _<_, _≤_}
+use mathlib.Core.Path.{_≡_, refl, sym, ap, ap₂, subst, _∙_}
+use mathlib.Core.Bool.{Bool, true, false, not, cond, _&&_, Bool·beq}
 use mathlib.Core.List.{List}
 use native.Mathlib.Omega.{arith}
-use native.Mathlib.Numerals.{add-one}
 use native.Mathlib.Decide.{ℕ-discrete}
-use borrow.Author.Tests.{eq-eqb, ne-eqb, eqb-true}
-use lib.Dec.{eqb}
-use lib.ListN.{getD, set}
-use Rattle.lists.specs.Search.{any, bit, count}
-use Rattle.lists.specs.Tables.{Table}
+use native.Mathlib.Nat.{le-antisymm}
+use borrow.Author.Tests.{eq-eqb, ne-eqb, eqb-true, lt-ltb, le-ltb}
+use lib.Dec.{eqb, ltb}
+use lib.ListN.{getD}
+use Rattle.lists.specs.Search.{any, count}
 use Rattle.lists.proofs.Bools.{clash, same-bool, true-false, refuted}
-use Rattle.lists.proofs.Search.{any-ext, any-clean, any-none, lowest-ext}
-use Rattle.lists.proofs.Counts.{count-none, count-more, count-ext, count-zero}
-use Rattle.lists.proofs.Tables.{table-set, table-as}
+use Rattle.lists.proofs.Search.{lowest-ext, any-ext, any-clean, any-none, any-witness}
+use Rattle.lists.proofs.Counts.{count-ext, count-zero, count-max}
 use Rattle.isa.specs.declared.Kind.{Kind}
 use Rattle.isa.specs.Instructions.{instrAt, isJump}
 use Rattle.graph.specs.Claim.{isEdge, hasEdge, idOf}
 use Rattle.graph.specs.Rules.{setsDiffer}
-use Rattle.graph.specs.Passes.{classOf, classSize}
-use Rattle.graph.proofs.Edges.{has-edge, id-below}
+use Rattle.graph.specs.Passes.{Sized}
+use Rattle.graph.proofs.Edges.{has-edge, edge-below, id-below}
 use Rattle.report.specs.declared.Freedom.{Freedom}
-use Rattle.report.specs.declared.passes.Tally.{Tally}
-use Rattle.report.specs.Figures.{wordsOfKind, kindsOf, freedomBy, setSize, isNewSet, setsOf, highest, total, largestOf, distinctEdges, figuresOf}
-use Rattle.report.specs.Inside.{labelAt, classAt, numberAt, isNew, sizeBy, sizeAt, figuresRead, Readable, Held, marksOf, Marked, Tallied}
+use Rattle.report.specs.declared.passes.Sums.{Sums}
+use Rattle.report.specs.Figures.{wordsOfKind, freedomBy, setSize, isNewSet, setsOf, highest, total, largestOf, distinctEdges, figuresOf}
+use Rattle.report.specs.Inside.{labelAt, setAt, timesIn, labelsOf, jumpsOf, figuresRead, Readable, Held, Counted, Summable, Summed}
+use Rattle.report.proofs.Sums.{total-ext, highest-ext, highest-above, highest-least, any-count, grouped, times-few, isNew, new-count}
 
-any-more : (f : ℕ → Bool) (k : ℕ) → any f (k + 1) ≡ (f k || any f k)
-unfolding any
-any-more f k = rw add-one
-
--- sums and highest numbers, one more at a time
-total-none : (f : ℕ → ℕ) → 0 ≡ total f 0
-unfolding total
-total-none f = refl
-
-total-more : (f : ℕ → ℕ) (k : ℕ) → total f (k + 1) ≡ f k + total f k
-unfolding total
-total-more f k = rw add-one
-
-highest-none : (f : ℕ → ℕ) → 0 ≡ highest f 0
-unfolding highest
-highest-none f = refl
-
-highest-more : (f : ℕ → ℕ) (k : ℕ) → highest f (k + 1) ≡ max (f k) (highest f k)
-unfolding highest
-highest-more f k = rw add-one
-
-total-ext : (f g : ℕ → ℕ) (n : ℕ) → ((k : ℕ) → k < n → f k ≡ g k) → total f n ≡ total g n
-unfolding total
-total-ext f g zero h = refl
-total-ext f g (suc n) h = rw (total-ext f g n (λ k l. h k (omega arith)), h n (omega arith))
-
-highest-ext : (f g : ℕ → ℕ) (n : ℕ) → ((k : ℕ) → k < n → f k ≡ g k) → highest f n ≡ highest g n
-unfolding highest
-highest-ext f g zero h = refl
-highest-ext f g (suc n) h = rw (highest-ext f g n (λ k l. h k (omega arith)), h n (omega arith))
-
--- marks: whether a number is new, and one mark more
-marks-none : (f : ℕ → ℕ) (s : ℕ) → 0 ≡ marksOf f 0 s
-unfolding any
-marks-none f s = refl
-
-module _ (f : ℕ → ℕ) (marks : List ℕ) (n j x : ℕ) (h : Table marks n (marksOf f j)) (ex : x ≡ f j) (small : x ≤ n) (limit : n ≤ 2048) where
-  marks-more : (s : ℕ) → marksOf f (j + 1) s ≡ bit (eqb x (s + 1) || any (λ i. eqb (f i) (s + 1)) j)
-  marks-more s =
-      ap bit (any-more (λ i. eqb (f i) (s + 1)) j)
-      ∙ ap (λ (z : ℕ). bit (eqb z (s + 1) || any (λ i. eqb (f i) (s + 1)) j)) (sym ex)
-
-  marks-step : {r : ℕ} {marks′ : List ℕ} → Marked x marks r marks′ → Table marks′ n (marksOf f (j + 1))
-  marks-step {r} {marks′} m = rw (m .marks-after) (go (ℕ-discrete x 0))
-    where
-      go : Dec (x ≡ 0) → Table (cond (eqb x 0) marks (set marks (x - 1) 1)) n (marksOf f (j + 1))
-      go (yes p) =
-          rw (eq-eqb x 0 p)
-          (table-as (marksOf f (j + 1)) h (λ s l. sym (marks-more s ∙ rw (ne-eqb x (s + 1) (λ e. omega arith)))))
-      go (no p) =
-          rw (ne-eqb x 0 p)
-          (table-set (marksOf f (j + 1)) (x - 1) 1 h (omega arith)
-          (sym (marks-more (x - 1) ∙ rw (eq-eqb x (x - 1 + 1) (omega arith))))
-          (λ s l ne. sym (marks-more s ∙ rw (ne-eqb x (s + 1) (λ e. ne (omega arith))))))
-
-  mark-new : {r : ℕ} {marks′ : List ℕ} → Marked x marks r marks′ → r ≡ bit (isNew f j)
-  mark-new {r} {marks′} m = m .fresh ∙ go (ℕ-discrete x 0) ∙ ap (λ (z : ℕ). bit (not (eqb z 0) && not (any (λ i. eqb (f i) z) j))) ex
-    where
-      flip : (b : Bool) → cond (eqb (bit b) 0) 1 0 ≡ bit (not b)
-      flip true = refl
-      flip false = refl
-
-      go : Dec (x ≡ 0)
-          → cond (eqb x 0) 0 (cond (eqb (getD marks (x - 1) 0) 0) 1 0) ≡ bit (not (eqb x 0) && not (any (λ i. eqb (f i) x) j))
-      go (yes p) = rw (eq-eqb x 0 p)
-      go (no p) =
-          let back : x - 1 + 1 ≡ x = omega arith in
-          rw (ne-eqb x 0 p, h .each (x - 1) (omega arith), back) (flip (any (λ i. eqb (f i) x) j))
-
--- the size by the array is that of the jump's set
-size-at : (memory : List ℕ) (n : ℕ) (size : List ℕ) (j x : ℕ) → Table size n (classSize (labelAt memory n) n n) → x ≡ numberAt memory j → x ≤ n
-    → sizeBy size x ≡ sizeAt memory n j
-size-at memory n size j x h e l = go (ℕ-discrete x 0) ∙ ap (λ (y : ℕ). cond (eqb y 0) 0 (classSize (labelAt memory n) n n (y - 1))) e
-  where
-    go : Dec (x ≡ 0) → sizeBy size x ≡ cond (eqb x 0) 0 (classSize (labelAt memory n) n n (x - 1))
-    go (yes p) = rw (eq-eqb x 0 p)
-    go (no p) = rw (ne-eqb x 0 p) (h .each (x - 1) (omega arith))
-
--- the tally of no words, of one word more, and all figures from the tally of all words
-pub tally-none : (memory : List ℕ) (n : ℕ) {marks : List ℕ} → Table marks n (λ _. 0)
-    → Tallied memory n 0 (record { edges = 0; largest = 0; sets = 0 }) marks
-tally-none memory n h =
+-- ---- all figures, from what the passes answer
+pub summable : (memory : List ℕ) (n : ℕ) {kinds labels jumps : List ℕ} → Sized memory n → Counted memory n n kinds labels jumps
+    → Summable labels jumps n
+unfolding timesIn
+summable memory n {kinds} {labels} s c =
     record {
-      edges = total-none _;
-      edges-fit = omega arith;
-      largest = highest-none _;
-      sets = count-none _;
-      marked = table-as _ h (λ s l. marks-none (numberAt memory) s);
+      limit = s .code-limit;
+      labels-size = c .labels-counted .size;
+      jumps-size = c .jumps-counted .size;
+      few-labels = λ k l.
+          let same = total-ext (λ i. getD labels i 0) (timesIn (labelAt memory n) n) k (λ i q. c .labels-counted .each i (omega arith)) in
+          omega (arith, times-few (labelAt memory n) n k, same, s .code-limit);
+      few-jumps = λ k l. omega (arith, c .jumps-counted .each k l, count-max (λ i. eqb (setAt memory n i) k) n, s .code-limit);
     }
 
-module _ (memory : List ℕ) (n j : ℕ) {before : Tally} {marks marks′ : List ℕ} {x new : ℕ} (limit : n ≤ 2048)
-    (h : Tallied memory n j before marks) (ex : x ≡ numberAt memory j) (small : x ≤ n) (m : Marked x marks new marks′) where
-  pub sets-more : before .sets + new ≡ count (isNew (numberAt memory)) (j + 1)
-  sets-more =
-      omega (arith, mark-new (numberAt memory) marks n j x (h .marked) ex small limit m, count-more (isNew (numberAt memory)) j, h .sets)
+pub figures-read : (memory : List ℕ) (n : ℕ) {kinds labels jumps : List ℕ} {sums : Sums} {freedom : Freedom}
+    → Counted memory n n kinds labels jumps → Summed labels jumps n sums → freedom ≡ freedomBy (getD kinds 6 0) n (sums .edges)
+    → record { kinds = kinds; sets = sums .sets; largest = sums .largest; freedom = freedom } ≡ figuresRead memory n
+figures-read memory n {kinds} {labels} {jumps} {sums} {freedom} c t f =
+    let l = c .labels-counted .each in
+    let edges = t .edges ∙ total-ext _ _ n (λ s q. ap₂ (λ (x y : ℕ). x * y) (l s q) (c .jumps-counted .each s q)) in
+    let largest = t .largest ∙ highest-ext _ _ n l in
+    let sets = t .sets ∙ count-ext _ _ n (λ s q. ap (λ (x : ℕ). not (eqb x 0)) (c .jumps-counted .each s q)) in
+    let several : getD kinds 6 0 ≡ wordsOfKind memory n Kind.Jmp = ap (λ (xs : List ℕ). getD xs 6 0) (c .kinds-counted) in
+    let same : freedom ≡ freedomBy (wordsOfKind memory n Kind.Jmp) n (total (λ s. labelsOf memory n s * jumpsOf memory n s) n) =
+    f ∙ ap₂ (λ (j e : ℕ). freedomBy j n e) several edges in
+    rw (c .kinds-counted, sets, largest, same)
 
-  pub tally-more : {size : List ℕ} {v largest : ℕ} → Table size n (classSize (labelAt memory n) n n) → v ≡ sizeBy size x → v ≤ 65535
-      → largest ≡ max v (before .largest)
-      → Tallied memory n (j + 1) (record { edges = before .edges + v; largest = largest; sets = before .sets + new }) marks′
-  tally-more {size} {v} t e fit l =
-      let its : v ≡ sizeAt memory n j = e ∙ size-at memory n size j x t ex small in
-      record {
-        edges = omega (arith, h .edges, its, total-more (sizeAt memory n) j);
-        edges-fit = omega (arith, h .edges-fit);
-        largest = l ∙ ap₂ max its (h .largest) ∙ sym (highest-more (sizeAt memory n) j);
-        sets = sets-more;
-        marked = marks-step (numberAt memory) marks n j x (h .marked) ex small limit m;
-      }
+-- the ID of the set of j, n where j is no jump; and one more than the ID, 0 where j is none
+abbrev setId : List ℕ → ℕ → ℕ → ℕ
+setId edges n j = cond (hasEdge edges j) (idOf edges n j) n
 
-pub figures-read : (memory : List ℕ) (n : ℕ) {kinds marks : List ℕ} {tally : Tally} {freedom : Freedom} → kinds ≡ kindsOf memory n
-    → Tallied memory n n tally marks → freedom ≡ freedomBy (getD kinds 6 0) n (tally .edges)
-    → record { kinds = kinds; sets = tally .sets; largest = tally .largest; freedom = freedom } ≡ figuresRead memory n
-figures-read memory n {kinds} {marks} {tally} {freedom} k t f =
-    let jumps : getD kinds 6 0 ≡ wordsOfKind memory n Kind.Jmp = ap (λ (xs : List ℕ). getD xs 6 0) k in
-    let same : freedom ≡ freedomBy (wordsOfKind memory n Kind.Jmp) n (total (sizeAt memory n) n) =
-    f ∙ ap₂ (λ (j e : ℕ). freedomBy j n e) jumps (t .edges) in
-    rw (k, t .sets, t .largest, same)
-
--- one more than the ID of a jump, 0 where j is none
 abbrev setNumber : List ℕ → ℕ → ℕ → ℕ
 setNumber edges n j = cond (hasEdge edges j) (idOf edges n j + 1) 0
 
--- what the words say of a program that is held
+-- ---- what the words say of a program that is held
 module _ (memory : List ℕ) (n : ℕ) (edges : List ℕ) (h : Held memory n edges) where
-  number-is : (j : ℕ) → j < n → numberAt memory j ≡ setNumber edges n j
-  number-is j l = go (isJump (instrAt memory j)) refl
-    where
-      go : (b : Bool) → isJump (instrAt memory j) ≡ b → cond b (getD memory (j - 3) 0 % 2 ^ 32 + 1) 0 ≡ setNumber edges n j
-      go true e = ap (λ (x : ℕ). x + 1) (h .ids j l e) ∙ sym (ap (λ (b : Bool). cond b (idOf edges n j + 1) 0) (sym (h .jumps j l) ∙ e))
-      go false e = sym (ap (λ (b : Bool). cond b (idOf edges n j + 1) 0) (sym (h .jumps j l) ∙ e))
-
-  number-low : (j : ℕ) (b : Bool) → hasEdge edges j ≡ b → cond b (idOf edges n j + 1) 0 ≤ n
-  number-low j true e = let l = id-below edges n (h .within) j e in omega arith
-  number-low j false e = omega arith
-
   pub readable : Readable memory n
-  readable = record { sized = h .sized; guarded = h .guarded; numbers = λ j l. rw (number-is j l) (number-low j (hasEdge edges j) refl) }
+  readable = record { sized = h .sized; guarded = h .guarded }
 
-  size-of : (j : ℕ) → j < n → sizeAt memory n j ≡ setSize edges n j
-  unfolding setSize classSize
-  size-of j l = ap (λ (x : ℕ). cond (eqb x 0) 0 (classSize (labelAt memory n) n n (x - 1))) (number-is j l) ∙ go (hasEdge edges j) refl
+  set-is : (j : ℕ) → j < n → setAt memory n j ≡ setId edges n j
+  set-is j l = go (isJump (instrAt memory j)) refl
     where
-      none : hasEdge edges j ≡ false → (t : ℕ) → t < n → isEdge edges j t ≡ false
-      none e t q = refuted _ (λ x. true-false (has-edge edges n j t x) e)
+      go : (b : Bool) → isJump (instrAt memory j) ≡ b → cond b (getD memory (j - 3) 0 % 2 ^ 32) n ≡ setId edges n j
+      go true e = h .ids j l e ∙ sym (ap (λ (b : Bool). cond b (idOf edges n j) n) (sym (h .jumps j l) ∙ e))
+      go false e = sym (ap (λ (b : Bool). cond b (idOf edges n j) n) (sym (h .jumps j l) ∙ e))
 
+  id-under : (j : ℕ) → hasEdge edges j ≡ true → idOf edges n j < n
+  id-under = id-below edges n (h .within)
+
+  -- ---- edges: each jump has as many as there are labels with its ID
+  size-none : (j : ℕ) → hasEdge edges j ≡ false → 0 ≡ setSize edges n j
+  unfolding setSize
+  size-none j e = count-zero (isEdge edges j) n (λ t q. refuted _ (λ x. true-false (has-edge edges n j t x) e))
+
+  size-some : (j : ℕ) → hasEdge edges j ≡ true → setSize edges n j ≡ labelsOf memory n (idOf edges n j)
+  unfolding setSize timesIn
+  size-some j e = count-ext _ _ n (λ t q. h .labels j t e q)
+
+  size-of : (j : ℕ) → j < n → setSize edges n j ≡ cond (ltb (setAt memory n j) n) (labelsOf memory n (setAt memory n j)) 0
+  size-of j l = go (hasEdge edges j) refl ∙ sym (ap (λ (x : ℕ). cond (ltb x n) (labelsOf memory n x) 0) (set-is j l))
+    where
       go : (b : Bool) → hasEdge edges j ≡ b
-          → cond (eqb (cond b (idOf edges n j + 1) 0) 0) 0 (classSize (labelAt memory n) n n (cond b (idOf edges n j + 1) 0 - 1)) ≡ count (isEdge edges j) n
-      go true e =
-          let back : idOf edges n j + 1 - 1 ≡ idOf edges n j = omega arith in
-          rw (ne-eqb (idOf edges n j + 1) 0 (λ z. omega arith), back)
-          (count-ext (λ t. eqb (classOf (labelAt memory n) n t) (idOf edges n j)) (isEdge edges j) n (λ t q. sym (h .classes j t e q)))
-      go false e = count-zero (isEdge edges j) n (none e)
+          → setSize edges n j ≡ cond (ltb (cond b (idOf edges n j) n) n) (labelsOf memory n (cond b (idOf edges n j) n)) 0
+      go true e = size-some j e ∙ sym (ap (λ (b : Bool). cond b (labelsOf memory n (idOf edges n j)) 0) (lt-ltb _ _ (id-under j e)))
+      go false e = sym (size-none j e) ∙ sym (ap (λ (b : Bool). cond b (labelsOf memory n n) 0) (le-ltb n n (omega arith)))
 
-  -- equal sets have one ID, and sets with one ID are equal
+  edges-are : total (λ s. labelsOf memory n s * jumpsOf memory n s) n ≡ distinctEdges n edges
+  edges-are = sym (total-ext _ _ n size-of ∙ grouped (setAt memory n) (labelsOf memory n) n n)
+
+  -- ---- the largest set: a label that occurs has the ID of a jump
+  jump-of : (s : ℕ) → s < n → (labelsOf memory n s ≡ 0 → ⊥) → (j : ℕ) × (j < n) × (hasEdge edges j ≡ true) × (idOf edges n j ≡ s)
+  unfolding timesIn
+  jump-of s l ne =
+      let w = any-witness (λ t. eqb (labelAt memory n t) s) n (any-count (λ t. eqb (labelAt memory n t) s) n ∙ ap not (ne-eqb _ 0 ne)) in
+      let e = eqb-true _ _ (w .2) in
+      let v = h .used (w .0) (w .1) (subst (λ (x : ℕ). x < n) (sym e) l) in
+      let has = has-edge edges n (v .0) (w .0) (v .1) in
+      let same = eqb-true _ _ (sym (h .labels (v .0) (w .0) has (w .1)) ∙ v .1) in
+      (v .0, edge-below edges n (h .within) (v .0) (w .0) (v .1) .0, has, sym same ∙ e)
+
+  largest-is : highest (labelsOf memory n) n ≡ largestOf n edges
+  largest-is = le-antisymm (highest-least _ n _ up) (highest-least _ n _ down)
+    where
+      up : (s : ℕ) → s < n → labelsOf memory n s ≤ highest (setSize edges n) n
+      up s l = go (ℕ-discrete (labelsOf memory n s) 0)
+        where
+          go : Dec (labelsOf memory n s ≡ 0) → labelsOf memory n s ≤ highest (setSize edges n) n
+          go (yes p) = omega arith
+          go (no p) =
+              let v = jump-of s l p in
+              let e : setSize edges n (v .0) ≡ labelsOf memory n s = size-some (v .0) (v .2) ∙ ap (labelsOf memory n) (v .3) in
+              omega (arith, e, highest-above (setSize edges n) n (v .0) (v .1))
+
+      down : (j : ℕ) → j < n → setSize edges n j ≤ highest (labelsOf memory n) n
+      down j l = go (hasEdge edges j) refl
+        where
+          go : (b : Bool) → hasEdge edges j ≡ b → setSize edges n j ≤ highest (labelsOf memory n) n
+          go true e = omega (arith, size-some j e, highest-above (labelsOf memory n) n (idOf edges n j) (id-under j e))
+          go false e = omega (arith, size-none j e)
+
+  -- ---- sets: equal sets have one ID, and sets with one ID are equal
   same-set : (i j : ℕ) → hasEdge edges i ≡ true → hasEdge edges j ≡ true
       → eqb (idOf edges n i + 1) (idOf edges n j + 1) ≡ not (setsDiffer edges n i j)
   unfolding idOf
@@ -203,7 +151,7 @@ module _ (memory : List ℕ) (n : ℕ) (edges : List ℕ) (h : Held memory n edg
           let q : idOf edges n i ≡ idOf edges n j = omega arith in
           ap not
           (any-clean (λ a. not (Bool·beq (isEdge edges i a) (isEdge edges j a))) n
-          (λ a l. alike _ _ (h .classes i a ei l ∙ ap (eqb (classAt memory n a)) q ∙ sym (h .classes j a ej l))))
+          (λ a l. alike _ _ (h .labels i a ei l ∙ ap (eqb (labelAt memory n a)) q ∙ sym (h .labels j a ej l))))
 
       back : (b : Bool) → setsDiffer edges n i j ≡ b → not (setsDiffer edges n i j) ≡ true → idOf edges n i ≡ idOf edges n j
       back true p e = clash (cc)
@@ -211,33 +159,53 @@ module _ (memory : List ℕ) (n : ℕ) (edges : List ℕ) (h : Held memory n edg
           lowest-ext (isEdge edges i) (isEdge edges j) n
           (λ a l. same _ _ (any-none (λ a. not (Bool·beq (isEdge edges i a) (isEdge edges j a))) n p a l))
 
-  new-of : (j : ℕ) → j < n → isNew (numberAt memory) j ≡ isNewSet memory n edges j
+  new-of : (j : ℕ) → j < n → isNew (setNumber edges n) j ≡ isNewSet memory n edges j
   new-of j l =
-      ap (λ (z : ℕ). not (eqb z 0) && not (any (λ i. eqb (numberAt memory i) z) j)) (number-is j l)
-      ∙ go (hasEdge edges j) refl
+      go (hasEdge edges j) refl
       ∙ ap (λ (b : Bool). b && not (any (λ i. isJump (instrAt memory i) && not (setsDiffer edges n i j)) j)) (sym (h .jumps j l))
     where
       earlier : hasEdge edges j ≡ true → (i : ℕ) → i < n
-          → eqb (numberAt memory i) (idOf edges n j + 1) ≡ (isJump (instrAt memory i) && not (setsDiffer edges n i j))
-      earlier e i q = ap (λ (z : ℕ). eqb z (idOf edges n j + 1)) (number-is i q) ∙ by (hasEdge edges i) refl ∙ ap (λ (b : Bool). b && not (setsDiffer edges n i j)) (sym (h .jumps i q))
+          → eqb (setNumber edges n i) (idOf edges n j + 1) ≡ (isJump (instrAt memory i) && not (setsDiffer edges n i j))
+      earlier e i q = by (hasEdge edges i) refl ∙ ap (λ (b : Bool). b && not (setsDiffer edges n i j)) (sym (h .jumps i q))
         where
           by : (b : Bool) → hasEdge edges i ≡ b → eqb (cond b (idOf edges n i + 1) 0) (idOf edges n j + 1) ≡ (hasEdge edges i && not (setsDiffer edges n i j))
           by true f = rw f (same-set i j f e)
           by false f = rw f (ne-eqb 0 (idOf edges n j + 1) (λ z. omega arith))
 
       go : (b : Bool) → hasEdge edges j ≡ b
-          → (not (eqb (cond b (idOf edges n j + 1) 0) 0) && not (any (λ i. eqb (numberAt memory i) (cond b (idOf edges n j + 1) 0)) j))
+          → (not (eqb (cond b (idOf edges n j + 1) 0) 0) && not (any (λ i. eqb (setNumber edges n i) (cond b (idOf edges n j + 1) 0)) j))
           ≡ (hasEdge edges j && not (any (λ i. isJump (instrAt memory i) && not (setsDiffer edges n i j)) j))
       go true e =
           rw (e, ne-eqb (idOf edges n j + 1) 0 (λ z. omega arith))
           (ap not (any-ext _ _ j (λ i q. earlier e i (omega arith))))
       go false e = rw e
 
+  number-low : (j : ℕ) (b : Bool) → hasEdge edges j ≡ b → cond b (idOf edges n j + 1) 0 ≤ n
+  number-low j true e = let l = id-under j e in omega arith
+  number-low j false e = omega arith
+
+  occurs : (s : ℕ) → s < n → any (λ i. eqb (setNumber edges n i) (s + 1)) n ≡ not (eqb (jumpsOf memory n s) 0)
+  unfolding timesIn
+  occurs s l =
+      any-ext _ _ n (λ i q. by i (hasEdge edges i) refl ∙ sym (ap (λ (x : ℕ). eqb x s) (set-is i q)))
+      ∙ any-count (λ i. eqb (setAt memory n i) s) n
+    where
+      by : (i : ℕ) (b : Bool) → hasEdge edges i ≡ b → eqb (cond b (idOf edges n i + 1) 0) (s + 1) ≡ eqb (cond b (idOf edges n i) n) s
+      by i true e =
+          same-bool _ _
+          (λ t. let p = eqb-true (idOf edges n i + 1) (s + 1) t in eq-eqb (idOf edges n i) s (omega arith))
+          (λ t. let p = eqb-true (idOf edges n i) s t in eq-eqb (idOf edges n i + 1) (s + 1) (omega arith))
+      by i false e = ne-eqb 0 (s + 1) (λ z. omega arith) ∙ sym (ne-eqb n s (λ z. omega arith))
+
+  sets-are : count (λ s. not (eqb (jumpsOf memory n s) 0)) n ≡ setsOf memory n edges
+  unfolding setsOf
+  sets-are =
+      sym
+      (sym (count-ext _ _ n new-of)
+      ∙ new-count (setNumber edges n) n n (λ j l. number-low j (hasEdge edges j) refl)
+      ∙ count-ext _ _ n occurs)
+
   -- so the passes read the figures
   pub figures-are : figuresRead memory n ≡ figuresOf memory n edges
-  unfolding figuresOf setsOf
-  figures-are =
-      let s : count (isNew (numberAt memory)) n ≡ count (isNewSet memory n edges) n = count-ext _ _ n new-of in
-      let l : highest (sizeAt memory n) n ≡ largestOf n edges = highest-ext _ _ n size-of in
-      let e : total (sizeAt memory n) n ≡ distinctEdges n edges = total-ext _ _ n size-of in
-      rw (s, l, e)
+  unfolding figuresOf
+  figures-are = rw (sets-are, largest-is, edges-are)

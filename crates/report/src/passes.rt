@@ -1,25 +1,24 @@
 // The figures of a program that the checker has accepted, read off its words, in time linear in them. Each address of a target
-// set holds a label with the set's ID, and no other address holds a label, so the labels tell how large each set is; and the
-// guard of each jump holds its set's ID, in the movi three words before the jmp.
+// set holds a label with the set's ID, and no other address holds a label, so the labels with a number are the targets of a set;
+// and the guard of each jump holds its set's ID, in the movi three words before the jmp.
 ghost use mathlib.Core.Path.{_≡_};
-ghost use mathlib.Core.Bool.{cond};
-ghost use Prim.Native.Nat.{max, _+_, _<_, _≤_};
+ghost use mathlib.Core.Bool.{not};
+ghost use Prim.Native.Nat.{max, _+_, _*_, _<_, _≤_};
 ghost use lib.Dec.{eqb};
 ghost use lib.ListN.{length, getD};
+ghost use Rattle.lists.specs.Search.{bit};
 ghost use Rattle.lists.specs.Tables.{Table};
-ghost use Rattle.isa.specs.Words.{decodeOf};
-ghost use Rattle.isa.specs.Instructions.{labelNumber};
-ghost use Rattle.graph.specs.Passes.{Sized, Is, classSize};
+ghost use Rattle.graph.specs.Passes.{Sized, Is};
 ghost use Rattle.report.specs.Figures.{kindsOf, freedomBy};
-ghost use Rattle.report.specs.Inside.{rowOf, labelAt, classAt, numberAt, sizeBy, Readable, Tallied, Marked, figuresRead};
+ghost use Rattle.report.specs.Inside.{rowOf, labelAt, setAt, oneMore, Readable, Counted, Summable, Summed, figuresRead};
 use crate::Figures;
 use crate::Freedom;
 use isa::Kind;
 use isa::is_a;
 use isa::kind_of_word;
 
-// What the words looked at tell of the jumps: their edges, the size of their largest target set, and how many sets they have.
-struct Tally {
+// The edges of the jumps, the size of their largest target set, and how many sets they have.
+struct Sums {
     edges: u32,
     largest: u16,
     sets: u16,
@@ -29,35 +28,38 @@ pub(crate) fn figures(memory: &[u64], n: usize) -> Figures
     requires { ⌜ Readable (now memory) n ⌝ }
     ensures { λ r. ⌜ r ≡ figuresRead (now (memory .entry)) n ⌝ }
 {
-    let mut size = [0u16; 2048];
-    class_sizes(memory, n, &mut size);
-    count_words(memory, n, &size)
+    let mut labels = [0u16; 2048];
+    let mut jumps = [0u16; 2048];
+    let kinds = count_words(memory, n, &mut labels, &mut jumps);
+    let sums = sum_up(&labels, &jumps, n);
+    let freedom = freedom_of(kinds[6], n, sums.edges);
+    Figures {
+        kinds: kinds,
+        sets: sums.sets,
+        largest: sums.largest,
+        freedom: freedom,
+    }
 }
 
-fn count_words(memory: &[u64], n: usize, size: &[u16; 2048]) -> Figures
-    requires { ⌜ Readable (now memory) n × Table (now size) n (classSize (labelAt (now memory) n) n n) ⌝ }
-    ensures { λ r. ⌜ r ≡ figuresRead (now (memory .entry)) n ⌝ }
+// Counts the words by their kinds, the labels by their numbers, and the jumps by the IDs of their sets.
+fn count_words(
+    memory: &[u64],
+    n: usize,
+    labels: &mut [u16; 2048],
+    jumps: &mut [u16; 2048],
+) -> [u16; 10]
+    requires { ⌜ Readable (now memory) n × Table (now labels) n (λ _. 0) × Table (now jumps) n (λ _. 0) ⌝ }
+    ensures { λ r. ⌜ Counted (now (memory .entry)) n n r (now (labels .exit)) (now (jumps .exit)) ⌝ }
 {
     let mut kinds = [0u16; 10];
-    let mut marks = [0u16; 2048];
-    let mut tally = Tally {
-        edges: 0,
-        largest: 0,
-        sets: 0,
-    };
     let mut a = 0;
     while a < n {
         count_kind(&mut kinds, memory, n, a);
-        tally = tally_jump(tally, memory, n, a, size, &mut marks);
+        count_at(labels, n, label_at(memory, n, a));
+        count_at(jumps, n, set_at(memory, n, a));
         a += 1;
     }
-    let freedom = freedom_of(kinds[6], n, tally.edges);
-    Figures {
-        kinds: kinds,
-        sets: tally.sets,
-        largest: tally.largest,
-        freedom: freedom,
-    }
+    kinds
 }
 
 // Counts the word at a, after those before it.
@@ -68,28 +70,6 @@ fn count_kind(kinds: &mut [u16; 10], memory: &[u64], n: usize, a: usize)
     let row = row_of(kind_of_word(memory[a]));
     let v = kinds[row] + 1;
     kinds[row] = v;
-}
-
-// Adds the jump at j, if there is one, to the tally of the words before it.
-fn tally_jump(
-    before: Tally,
-    memory: &[u64],
-    n: usize,
-    j: usize,
-    size: &[u16; 2048],
-    marks: &mut [u16; 2048],
-) -> Tally
-    requires { ⌜ Readable (now memory) n × (j < n) × Table (now size) n (classSize (labelAt (now memory) n) n n) × Tallied (now memory) n j before (now marks) ⌝ }
-    ensures { λ r. ⌜ Tallied (now (memory .entry)) n (j + 1) r (now (marks .exit)) ⌝ }
-{
-    let x = set_number(memory, n, j);
-    let v = size_by(size, x);
-    let new = mark(marks, x);
-    Tally {
-        edges: before.edges + v as u32,
-        largest: higher(v, before.largest),
-        sets: before.sets + new,
-    }
 }
 
 fn row_of(kind: Kind) -> usize
@@ -109,68 +89,76 @@ fn row_of(kind: Kind) -> usize
     }
 }
 
-// The ID that the word at t gives as a label; t itself where it is no label of a code address.
-fn class_at(memory: &[u64], n: usize, t: usize) -> usize
-    requires { ⌜ (t < n) × (n ≤ length (now memory)) ⌝ }
-    ensures { λ r. ⌜ Is r (classAt (now (memory .entry)) n t) n ⌝ }
+// The number of the label at a, n where none is.
+fn label_at(memory: &[u64], n: usize, a: usize) -> usize
+    requires { ⌜ (a < n) × (n ≤ length (now memory)) ⌝ }
+    ensures { λ r. ⌜ r ≡ labelAt (now (memory .entry)) n a ⌝ }
 {
-    let word = memory[t];
+    let word = memory[a];
     if is_a(Kind::Label, word) {
-        let w = (word % 0x1_0000_0000) as usize;
-        if w < n {
-            return w;
-        }
+        return (word % 0x1_0000_0000) as usize;
     }
-    t
+    n
 }
 
-// How many addresses there are of each class.
-fn class_sizes(memory: &[u64], n: usize, size: &mut [u16; 2048])
-    requires { ⌜ Sized (now memory) n × Table (now size) n (λ _. 0) ⌝ }
-    ensures { λ _. ⌜ Table (now (size .exit)) n (classSize (labelAt (now (memory .entry)) n) n n) ⌝ }
-{
-    let mut t = 0;
-    while t < n {
-        let s = class_at(memory, n, t);
-        let v = size[s] + 1;
-        size[s] = v;
-        t += 1;
-    }
-}
-
-// One more than the ID of the set of the jump at j, by its guard; 0 where no jump is.
-fn set_number(memory: &[u64], n: usize, j: usize) -> usize
+// The ID of the set of the jump at j, by its guard; n where no jump is.
+fn set_at(memory: &[u64], n: usize, j: usize) -> usize
     requires { ⌜ Readable (now memory) n × (j < n) ⌝ }
-    ensures { λ r. ⌜ (r ≡ numberAt (now (memory .entry)) j) × (r ≤ n) ⌝ }
+    ensures { λ r. ⌜ r ≡ setAt (now (memory .entry)) n j ⌝ }
 {
     if is_a(Kind::Jmp, memory[j]) {
-        return (memory[j - 3] % 0x1_0000_0000) as usize + 1;
+        return (memory[j - 3] % 0x1_0000_0000) as usize;
     }
-    0
+    n
 }
 
-// Marks the number x, unless it is 0, and answers whether it had no mark before.
-fn mark(marks: &mut [u16; 2048], x: usize) -> u16
-    requires { ⌜ (x ≤ 2048) × (length (now marks) ≡ 2048) ⌝ }
-    ensures { λ r. ⌜ Marked x (now (marks .entry)) r (now (marks .exit)) ⌝ }
+// One more of the number s, if it is below n.
+fn count_at(xs: &mut [u16; 2048], n: usize, s: usize)
+    requires { ⌜ (n ≤ 2048) × (length (now xs) ≡ 2048) × (s < n → getD (now xs) s 0 < 65535) ⌝ }
+    ensures { λ _. ⌜ now (xs .exit) ≡ oneMore (now (xs .entry)) n s ⌝ }
 {
-    if x == 0 {
-        return 0;
+    if n <= s {
+        return;
     }
-    let s = x - 1;
-    let old = marks[s];
-    marks[s] = 1;
-    if old == 0 { 1 } else { 0 }
+    let v = xs[s] + 1;
+    xs[s] = v;
 }
 
-fn size_by(size: &[u16; 2048], x: usize) -> u16
-    requires { ⌜ (x ≤ 2048) × (length (now size) ≡ 2048) ⌝ }
-    ensures { λ r. ⌜ r ≡ sizeBy (now (size .entry)) x ⌝ }
+// A set has as many targets as there are labels with its ID, and each of the jumps that share it has an edge to each of them.
+fn sum_up(labels: &[u16; 2048], jumps: &[u16; 2048], n: usize) -> Sums
+    requires { ⌜ Summable (now labels) (now jumps) n ⌝ }
+    ensures { λ r. ⌜ Summed (now (labels .entry)) (now (jumps .entry)) n r ⌝ }
 {
-    if x == 0 {
-        return 0;
+    let mut edges = 0u32;
+    let mut largest = 0u16;
+    let mut sets = 0u16;
+    let mut s = 0;
+    while s < n {
+        let targets = labels[s];
+        let sharing = jumps[s];
+        edges = edges + product(targets, sharing);
+        largest = higher(targets, largest);
+        sets = sets + some(sharing);
+        s += 1;
     }
-    size[x - 1]
+    Sums {
+        edges: edges,
+        largest: largest,
+        sets: sets,
+    }
+}
+
+fn product(x: u16, y: u16) -> u32
+    ensures { λ r. ⌜ r ≡ x * y ⌝ }
+{
+    x as u32 * y as u32
+}
+
+// 1 unless x is 0.
+fn some(x: u16) -> u16
+    ensures { λ r. ⌜ r ≡ bit (not (eqb x 0)) ⌝ }
+{
+    if x == 0 { 0 } else { 1 }
 }
 
 fn higher(a: u16, b: u16) -> u16

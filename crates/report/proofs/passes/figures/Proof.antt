@@ -1,6 +1,7 @@
--- `passes::figures` meets its contract: the sizes of the classes, and what the words give with them.
+-- `passes::figures` meets its contract: what the passes answer, put together.
 use borrow.Author.Needs.{needs}
 use Rattle.lists.proofs.Tables.{table-zeros}
+use Rattle.report.proofs.Sets.{summable, figures-read}
 use Rattle.report.proofs.passes.figures.Statement.{statement}
 use Rattle.report.proofs.passes.figures.Tie as tie
 
@@ -8,6 +9,11 @@ pub figures-spec : {M : Type 1} → statement M
 figures-spec =
     tie.close
     (tie.spec
-    (λ c κs. let s = c .before .before .pre .sized in (s, table-zeros _ (s .code-limit)))
+    (λ c κs.
+    let readable = c .before .before .before .pre in
+    let limit = readable .sized .code-limit in
+    (readable, table-zeros _ limit, table-zeros _ limit))
+    (λ c κs. summable _ _ (c .before .before .before .before .before .before .pre .sized) (c .before .before .count-words .ensures))
+    (λ c. search needs)
     (λ c κs. search needs)
-    (λ c. search needs))
+    (λ c. figures-read _ _ (c .before .before .before .before .count-words .ensures) (c .before .sum-up .ensures) (c .freedom-of .ensures)))
