@@ -56,7 +56,7 @@ static void print_figures(uint8_t technique, size_t len, size_t n, size_t edge_n
         printf("no jumps\n");
         return;
     }
-    printf("%llu target sets, the largest of %llu; freedom %llu of %llu\n", (unsigned long long)figures[PG_FIGURE_SETS],
+    printf("target sets: %llu, the largest of %llu; freedom: %llu of %llu\n", (unsigned long long)figures[PG_FIGURE_SETS],
            (unsigned long long)figures[PG_FIGURE_LARGEST], (unsigned long long)figures[PG_FIGURE_EDGES],
            (unsigned long long)figures[PG_FIGURE_POSSIBLE]);
 }

@@ -52,7 +52,7 @@ fn print_figures(figures: &Figures) {
 }
 
 fn print_totals(totals: &Totals, counted: usize, paths: &[String]) {
-    println!("all: {} parcels, {counted} of them counted", totals.parcels);
+    println!("all: parcels: {}, counted: {counted}", totals.parcels);
     match totals.largest {
         Some(Largest { parcel, freedom }) => {
             println!("  freedom: {} of {}", totals.edges, totals.possible);

@@ -22,7 +22,7 @@ fn main() {
     println!("accepted, {technique:?}");
     let figures = program.report(technique).expect("the program is accepted");
     match figures.freedom {
-        Some(freedom) => println!("{} target sets, the largest of {}; freedom {freedom}", figures.sets, figures.largest),
+        Some(freedom) => println!("target sets: {}, the largest of {}; freedom: {freedom}", figures.sets, figures.largest),
         None => println!("no jumps"),
     }
 
