@@ -62,7 +62,7 @@ extern "C" {
 #define PG_STOP_FETCH 1   /* the pc is outside code (plain) or outside memory (with memory guards) */
 #define PG_STOP_ILLEGAL 2 /* the word at the pc is illegal */
 #define PG_STOP_ACCESS 3  /* a load outside memory, or a store outside data (plain) or outside memory */
-#define PG_STOP_NEXT 4    /* plain only: the next pc is outside code */
+#define PG_STOP_NEXT 4    /* plain only: the next pc is outside code; in an accepted program, at a jmp only */
 
 /* Refusals: why a call is turned away. 1 to 4 come from the calls that read a parcel (pg_read_parcel, pg_report_parcel and
  * pg_add_parcel), 7 to 15 from those that check a program (pg_check, pg_report, pg_add_report, pg_report_parcel and
@@ -81,7 +81,7 @@ extern "C" {
 #define PG_LABEL_CONDITION 12    /* the label condition fails at this address */
 #define PG_STORE_UNGUARDED 13    /* with memory guards: this st lacks its form or sequence */
 #define PG_JUMP_UNGUARDED 14     /* this jmp lacks its form or sequence */
-#define PG_BRANCH_TARGET 15      /* this bgt or jd breaks the target condition */
+#define PG_BRANCH_TARGET 15      /* this bgt or jd leads into a guard or out of code */
 #define PG_NOT_DATA 16           /* a bus write names an address outside data */
 #define PG_NOT_REGISTER 17       /* a bus write names a register outside r3 to r31 */
 

@@ -131,7 +131,7 @@ pub fn check(technique: Technique, memory: &[u64], n: usize, edges: &[u16]) -> A
     }
     for a in 0..n {
         if let Op::Bgt(_, _, w) | Op::Jd(w) = ops[a] {
-            if inside.contains(&(w as usize)) || (guards && w as usize >= n) {
+            if w as usize >= n || inside.contains(&(w as usize)) {
                 return at_address(15, a);
             }
         }
@@ -214,7 +214,7 @@ pub fn check_with_sets(technique: Technique, memory: &[u64], n: usize, edges: &[
     }
     for a in 0..n {
         if let Op::Bgt(_, _, w) | Op::Jd(w) = ops[a] {
-            if inside.contains(&w) || (guards && w as usize >= n) {
+            if w as usize >= n || inside.contains(&w) {
                 return at_address(15, a);
             }
         }
@@ -353,11 +353,7 @@ pub fn check_flat(technique: Technique, memory: &[u64], n: usize, edges: &[u16])
     }
     for a in 0..n {
         if let Op::Bgt(_, _, w) | Op::Jd(w) = ops[a] {
-            let wrong = match inside.get(w as usize) {
-                Some(&inner) => inner,
-                None => guards,
-            };
-            if wrong {
+            if inside.get(w as usize) != Some(&false) {
                 return at_address(15, a);
             }
         }

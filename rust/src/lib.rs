@@ -203,7 +203,7 @@ impl fmt::Display for Refusal {
             Refusal::LabelCondition => "the label condition fails",
             Refusal::StoreUnguarded => "a st lacks its form or sequence",
             Refusal::JumpUnguarded => "a jmp lacks its form or sequence",
-            Refusal::BranchTarget => "a bgt or jd breaks the target condition",
+            Refusal::BranchTarget => "a bgt or jd leads into a guard or out of code",
             Refusal::NotData => "a bus write names an address outside data",
             Refusal::NotRegister => "a bus write names a register outside r3 to r31",
         };
@@ -222,7 +222,7 @@ pub enum Stop {
     Illegal = 2,
     /// A load outside memory, or a store outside data, or, with memory guards, outside memory.
     Access = 3,
-    /// Plain only: the next pc is outside code.
+    /// Plain only: the next pc is outside code. An accepted program meets it at a jmp only.
     Next = 4,
 }
 

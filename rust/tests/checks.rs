@@ -99,6 +99,31 @@ fn full_size() {
     }
 }
 
+/// A branch may go to every word of code and to none past it, in both techniques.
+#[test]
+fn branch_targets_at_the_ends() {
+    use reference::{encode, Op};
+    for technique in TECHNIQUES {
+        for n in [2usize, 3, 9, 2047, 2048] {
+            for d in [0usize, 1, 2048] {
+                let near = [0, n - 2, n - 1, n, n + 1, n + d - 1, n + d];
+                let far = [2047, 2048, 2049, 65_535, 65_536, 1 << 31, u32::MAX as usize - 1, u32::MAX as usize];
+                for w in near.into_iter().chain(far) {
+                    for branch in [Op::Jd(w as u32), Op::Bgt(3, 4, w as u32)] {
+                        let mut memory = vec![encode(Op::Movi(5, 0)); n + d];
+                        memory[n - 2] = encode(branch);
+                        memory[n - 1] = encode(Op::Illegal);
+                        let p = Program { memory, n, edges: Vec::new() };
+                        let expected = if w < n { (0, 0, 0) } else { (15, 2, n as u64 - 2) };
+                        assert_eq!(checkers::check(technique, &p.memory, n, &[]), expected, "{branch:?} of {n} words");
+                        compare(technique, number_of(technique), &p);
+                    }
+                }
+            }
+        }
+    }
+}
+
 #[test]
 fn shapes() {
     let mut r = Random::new(24);

@@ -94,6 +94,8 @@ fn examples_get_the_verdicts_worked_out_by_hand() {
     let expected = [
         // jd 3 leads into the guard at 1 to 6; with memory guards a guard of ten words does not fit at 0 to 6
         ("branch-into-guard", address(BranchTarget, 0), address(JumpUnguarded, 6)),
+        // the bgt at 11 leads to 17, which is n; with memory guards the st at 14 has no guard, and 13 comes before 15
+        ("branch-out", address(BranchTarget, 11), address(StoreUnguarded, 14)),
         // with memory guards the st at 14 has no guard
         ("clipping", Verdict::Accepted, address(StoreUnguarded, 14)),
         // the label at 9 is no destination; 12 comes before 13 and 14

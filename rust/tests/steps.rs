@@ -294,6 +294,7 @@ fn every_register_in_every_field() {
 fn lists_of_calls() {
     let mut r = Random::new(15);
     let mut calls = 0;
+    let mut out_of_code = 0;
     for round in 0..8_000usize {
         let technique = TECHNIQUES[round % 2];
         let n = 1 + r.below(60);
@@ -305,11 +306,13 @@ fn lists_of_calls() {
             let number = number_for(&mut r, technique);
             match r.below(6) {
                 0 | 1 => {
-                    both.step(technique, number, n);
+                    let stop = both.step(technique, number, n);
+                    out_of_code += only_at_a_jmp(stop, &both.state, &program.memory);
                 }
                 2 => {
                     let limit = if r.chance(20) { r.below(65_536) as u16 } else { r.below(50) as u16 };
-                    both.run(technique, number, n, limit, 1);
+                    let stop = both.run(technique, number, n, limit, 1);
+                    out_of_code += only_at_a_jmp(stop, &both.state, &program.memory);
                 }
                 3 => {
                     let address = if r.chance(4) { r.odd_number() } else { (n + r.below(d + 1)) as u64 };
@@ -333,6 +336,17 @@ fn lists_of_calls() {
         assert_eq!(both.memory[..n], program.memory[..n]);
     }
     assert!(calls >= 100_000, "{calls} calls");
+    assert!(out_of_code > 0, "no jmp led out of code");
+}
+
+/// what is proved of every accepted program: where stop 4 is met, a jmp stands at the pc. How often that was seen, 0 or 1
+fn only_at_a_jmp(stop: u32, state: &[u64], checked: &[u64]) -> usize {
+    if stop != 4 {
+        return 0;
+    }
+    let word = reference::decode(checked[state[32] as usize]);
+    assert!(matches!(word, reference::Op::Jmp(_)), "stop 4 at {word:?}");
+    1
 }
 
 /// random words from any pc: the lists that no check accepts

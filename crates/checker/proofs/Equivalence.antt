@@ -23,7 +23,7 @@ use Rattle.guards.specs.Rules.{storeUnguarded, jumpUnguarded, insideEnding, tar
 use Rattle.guards.proofs.Known.{jmpPlace, jmp-place, jmp-there}
 use Rattle.guards.proofs.Targets.{TargetRight, target-right, right-target}
 use Rattle.graph.proofs.Apart.{WithinIfMeeting, meeting-within, within-apart}
-use Rattle.checker.specs.Conditions.{Listed, IsId, EndsWith, InnerWord, TargetInCode, StoresGuarded, OutsideStoreGuards, Conditions}
+use Rattle.checker.specs.Conditions.{Listed, IsId, EndsWith, InnerWord, StoresGuarded, OutsideStoreGuards, Conditions}
 use Rattle.checker.specs.Theorems.{AcceptedExactly}
 use Rattle.checker.proofs.Listed.{
   edge-listed,
@@ -145,28 +145,17 @@ module _ (t : Technique) (memory : List ℕ) (n : ℕ) (edges : List ℕ) (ok : 
       ends-with memory (jumpGuard t n id) a
       (rw (← id-is a id d) (not-false _ (and-rest (isJump (instrAt memory a)) _ (ap isJump e) (ok .jumps a h))))
 
-  abbrev Target : Technique → ℕ → Type 0
-  Target u w =
-      TargetInCode t memory n edges u w
-      × ((j id : ℕ) → j < n → IsId edges j id → InnerWord memory (jumpGuard t n id) j w → ⊥) × OutsideStoreGuards t memory n edges u w
+  out-of-jumps : (w : ℕ) → TargetRight t memory n edges w
+      → (j id : ℕ) → j < n → IsId edges j id → InnerWord memory (jumpGuard t n id) j w → ⊥
+  out-of-jumps w r j id h d i = true-false (inner-inside memory (jumpGuard t n id) w j i) (rw (id-is j id d) at (r .outside-jumps j h))
 
-  target : (u : Technique) → t ≡ u → (w : ℕ) → TargetRight t memory n edges w → Target u w
-  target u q w r = (in-code u q, outside, out-of-stores u q)
-    where
-      in-code : (u : Technique) → t ≡ u → TargetInCode t memory n edges u w
-      in-code Technique.Plain q = tt
-      in-code Technique.MemoryGuards q = r .in-code q
+  out-of-stores : (u : Technique) → t ≡ u → (w : ℕ) → TargetRight t memory n edges w → OutsideStoreGuards t memory n edges u w
+  out-of-stores Technique.Plain q w r = tt
+  out-of-stores Technique.MemoryGuards q w r =
+      λ a h i. true-false (inner-inside memory (storeGuard n (length memory)) w a i) (r .outside-stores q a h)
 
-      outside : (j id : ℕ) → j < n → IsId edges j id → InnerWord memory (jumpGuard t n id) j w → ⊥
-      outside j id h d i = true-false (inner-inside memory (jumpGuard t n id) w j i) (rw (id-is j id d) at (r .outside-jumps j h))
-
-      out-of-stores : (u : Technique) → t ≡ u → OutsideStoreGuards t memory n edges u w
-      out-of-stores Technique.Plain q = tt
-      out-of-stores Technique.MemoryGuards q =
-          λ a h i. true-false (inner-inside memory (storeGuard n (length memory)) w a i) (r .outside-stores q a h)
-
-  branch : (a w : ℕ) → a < n → branchTarget (instrAt memory a) ≡ some w → Target t w
-  branch a w h e = target t refl w (target-right memory n edges w t (rw e at (ok .branches a h)))
+  right-here : (a w : ℕ) → a < n → branchTarget (instrAt memory a) ≡ some w → TargetRight t memory n edges w
+  right-here a w h e = target-right memory n edges w t (rw e at (ok .branches a h))
 
   faultless-conditions : Conditions t memory n edges
   faultless-conditions =
@@ -181,8 +170,8 @@ module _ (t : Technique) (memory : List ℕ) (n : ℕ) (edges : List ℕ) (ok : 
               labels-at-destinations = destination;
               stores-guarded = stores t refl;
               jumps-guarded = jumps;
-              targets-in-code = λ a w h e. branch a w h e .0;
-              targets-outside-guards = λ a w h e. (branch a w h e .1, branch a w h e .2);
+              targets-in-code = λ a w h e. right-here a w h e .in-code;
+              targets-outside-guards = λ a w h e. (out-of-jumps w (right-here a w h e), out-of-stores t refl w (right-here a w h e));
             };
       }
 
@@ -249,7 +238,7 @@ module _ (t : Technique) (memory : List ℕ) (n : ℕ) (edges : List ℕ) (c : C
   right a w h e =
       let out = c .instrumented .targets-outside-guards a w h e in
       record {
-        in-code = λ u. subst (λ (x : Technique). TargetInCode t memory n edges x w) u (c .instrumented .targets-in-code a w h e);
+        in-code = c .instrumented .targets-in-code a w h e;
         outside-jumps = λ j l. refuted _ λ p.
             let i = inside-inner memory (jumpGuard t n (idOf edges n j)) w j p in
             out .0 j (idOf edges n j) l (jump-id j 0 l (jump-last t memory n _ j (i .ends))) i;

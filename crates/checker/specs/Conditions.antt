@@ -1,5 +1,6 @@
 -- The published conditions, in the order and the words of 000: the claimed graph is a CFG for the code (section 3), and the
--- code and its graph satisfy I (4.1) or, with memory guards, I_s (5.1), as document 01 makes them finite.
+-- code and its graph satisfy I (4.1) or, with memory guards, I_s (5.1), as document 01 makes them finite. One clause is added, by
+-- K2 of document 02: `targets-in-code`, of plain code.
 use Prim.Native.Nat.{ℕ, _+_, _-_, _≤_, _<_}
 use mathlib.Core.Path.{_≡_}
 use mathlib.Core.Bool.{true}
@@ -48,11 +49,6 @@ module _ (t : Technique) (memory : List ℕ) (n : ℕ) (edges : List ℕ) where
     -- 6, between computed jumps: their target sets "are equal or have nothing in common"
     pub sets-equal-or-apart : (i j a : ℕ) → Listed edges i a → Listed edges j a → (b : ℕ) → Listed edges i b → Listed edges j b
 
-  -- "the target address w .. is in code memory": asked with memory guards only
-  abbrev pub TargetInCode : Technique → ℕ → Type 0
-  TargetInCode Technique.Plain w = Unit {0}
-  TargetInCode Technique.MemoryGuards w = w < n
-
   -- "If w0 holds a st instruction, then this instruction is st r0(0), rs and it is preceded by a specific sequence", which is
   -- impossible without data: asked with memory guards only
   abbrev pub StoresGuarded : Technique → Type 0
@@ -79,8 +75,10 @@ module _ (t : Technique) (memory : List ℕ) (n : ℕ) (edges : List ℕ) where
     -- 4.1, condition 3; 5.1, condition 4: "this instruction is jmp r0 and it is preceded by a specific sequence"
     pub jumps-guarded : (a rs id : ℕ) → a < n → instrAt memory a ≡ Instr.Jmp rs → IsId edges a id
         → EndsWith memory (jumpGuard t n id) a
+    -- 5.1, condition 5: "the target address w is in code memory". Of plain code 4.1 does not ask this: there it is the clause that
+    -- K2 adds, "Plain code must from now on keep those targets in code".
+    pub targets-in-code : (a w : ℕ) → a < n → branchTarget (instrAt memory a) ≡ some w → w < n
     -- 4.1, condition 4; 5.1, condition 5
-    pub targets-in-code : (a w : ℕ) → a < n → branchTarget (instrAt memory a) ≡ some w → TargetInCode t w
     pub targets-outside-guards : (a w : ℕ) → a < n → branchTarget (instrAt memory a) ≡ some w
         → ((j id : ℕ) → j < n → IsId edges j id → InnerWord memory (jumpGuard t n id) j w → ⊥) × OutsideStoreGuards t w
 

@@ -7,7 +7,7 @@ ghost use Rattle.lists.specs.Search.{lowest};
 ghost use Rattle.isa.specs.Words.{decodeOf};
 ghost use Rattle.isa.specs.Instructions.{instrAt, isBranch};
 ghost use Rattle.guards.specs.Rules.{branchWrong};
-ghost use Rattle.guards.specs.Patterns.{endingNear, endingKind, targetBad, branchBad, GuardsKept};
+ghost use Rattle.guards.specs.Patterns.{endingNear, endingKind, guardNear, targetBad, branchBad, GuardsKept};
 use crate::code::jump_at;
 use crate::code::store_at;
 use isa::Kind;
@@ -54,16 +54,24 @@ fn is_branch(word: u64) -> bool
     is_a(Kind::Jd, word)
 }
 
+// The target is outside code, or a word of a guard but its first.
 fn is_wrong_target(technique: Technique, memory: &[u64], n: usize, w: usize) -> bool
     requires { ⌜ (n ≤ 2048) × (n ≤ length (now memory)) ⌝ }
     ensures { λ r. ⌜ r ≡ targetBad technique (now (memory .entry)) n w ⌝ }
 {
+    if n <= w {
+        return true;
+    }
+    is_inside_guard(technique, memory, n, w)
+}
+
+fn is_inside_guard(technique: Technique, memory: &[u64], n: usize, w: usize) -> bool
+    requires { ⌜ (n ≤ 2048) × (n ≤ length (now memory)) × (w ≤ n) ⌝ }
+    ensures { λ r. ⌜ r ≡ guardNear technique (now (memory .entry)) n w ⌝ }
+{
     match technique {
         Technique::Plain => ends_near(memory, n, false, 6, w),
         Technique::MemoryGuards => {
-            if n <= w {
-                return true;
-            }
             if ends_near(memory, n, true, 6, w) {
                 return true;
             }
@@ -74,12 +82,9 @@ fn is_wrong_target(technique: Technique, memory: &[u64], n: usize, w: usize) -> 
 
 // Whether a st, or a jmp, stands in code from w on, before the last of len words.
 fn ends_near(memory: &[u64], n: usize, store: bool, len: usize, w: usize) -> bool
-    requires { ⌜ (n ≤ 2048) × (n ≤ length (now memory)) × (1 ≤ len) × (len ≤ 10) ⌝ }
+    requires { ⌜ (n ≤ 2048) × (n ≤ length (now memory)) × (1 ≤ len) × (len ≤ 10) × (w ≤ n) ⌝ }
     ensures { λ r. ⌜ r ≡ endingNear (endingKind store) (now (memory .entry)) n len w ⌝ }
 {
-    if n <= w {
-        return false;
-    }
     let end = lesser(n, w + len - 1);
     let mut a = w;
     while a < end {

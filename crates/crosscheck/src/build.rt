@@ -241,7 +241,7 @@ fn word_for(
     let item = planned_at(plan, at);
     match item {
         STRAIGHT => straight(seed, guards, len),
-        BRANCH => branch(seed, guards, plan, n),
+        BRANCH => branch(seed, plan, n),
         LAST => once_in_four(seed, word(9, 0, 0, 0, 7), words::ONES),
         INSIDE => inside(seed, guards, plan, n, len, at),
         STORE => store(seed, guards, len, before),
@@ -304,18 +304,10 @@ fn formed(op: usize, a: usize, b: usize, c: usize, w: usize) -> usize {
     }
 }
 
-// A branch to a place that is no word of a guard but its first; plain, at times outside code.
-fn branch(seed: u64, guards: bool, plan: &[usize; 512], n: usize) -> Drawn {
+// A branch to a place in code that is no word of a guard but its first.
+fn branch(seed: u64, plan: &[usize; 512], n: usize) -> Drawn {
     let place = below(seed, n);
-    let target = safe_place(plan, place.x);
-    let out = below(place.seed, 12);
-    if guards {
-        branch_to(place.seed, target)
-    } else if out.x == 0 {
-        branch_to(out.seed, sum(n, target))
-    } else {
-        branch_to(out.seed, target)
-    }
+    branch_to(place.seed, safe_place(plan, place.x))
 }
 
 fn branch_to(seed: u64, target: usize) -> Drawn {

@@ -3,6 +3,7 @@
 // one by one, on two memories that must stay the same.
 use crate::codes::Course;
 use crate::codes::technique;
+use crate::edges::edge_at;
 use crate::random;
 use crate::random::Drawn;
 use crate::random::below;
@@ -134,8 +135,8 @@ fn call_once(
     let call = drawn.x;
     match call {
         0 => run_twice(walk, drawn.seed, guards, checked, n, edges, memory, twin),
-        1 => write_register(walk, drawn.seed, len),
-        _ => write_both(walk, drawn.seed, n, len, memory, twin),
+        1 => write_register(walk, drawn.seed, n, len),
+        _ => write_both(walk, drawn.seed, checked, n, edges, memory, twin),
     }
 }
 
@@ -287,11 +288,20 @@ fn hold_made(tally: Tally, kind: usize, follows: bool) -> Tally {
     count(stores, tally::OUTSIDE, !follows)
 }
 
-// "With memory guards, every step in it that cannot be made gives stop 2, or stop 3 with a load at the pc."
 fn hold_stop(tally: Tally, guards: bool, kind: usize, stop: u8) -> Tally {
-    let right = (stop == 2) | ((stop == 3) & (kind == words::LD));
-    let wrong = (stop > 4) | (guards & !right);
-    count(count(tally, tally::STOPS, true), tally::WRONG_STOPS, wrong)
+    let stops = count(tally, tally::STOPS, true);
+    let fours = count(stops, tally::FOURS, stop == 4);
+    count(fours, tally::WRONG_STOPS, !stop_allowed(guards, kind, stop))
+}
+
+// "With memory guards, every step in it that cannot be made gives stop 2, or stop 3 with a load at the pc." "An accepted plain
+// program then meets stop 4 at a jmp only."
+fn stop_allowed(guards: bool, kind: usize, stop: u8) -> bool {
+    if guards {
+        (stop == 2) | ((stop == 3) & (kind == words::LD))
+    } else {
+        (stop < 4) | ((stop == 4) & (kind == words::JMP))
+    }
 }
 
 // 0 where the step was made, the stop's number, or 99 for a refusal.
@@ -338,19 +348,34 @@ fn written_number(written: Written) -> u8 {
 fn write_both(
     walk: Walk,
     seed: u64,
+    checked: &[u64],
     n: usize,
-    len: usize,
+    edges: &[u16],
     memory: &mut [u64],
     twin: &mut [u64],
 ) -> Walk {
-    let address = random_address(seed, n, len);
-    let word = random::word(address.seed, len);
+    let address = random_address(seed, n, checked.len());
+    let word = bus_word(address.seed, checked, edges);
     let state = walk.state;
     let once = write_word(walk.tally, memory, n, address.x, word.x);
     Walk {
         state: state,
         tally: write_word(once, twin, n, address.x, word.x),
         seed: word.seed,
+    }
+}
+
+// Any word, at times the label of a set.
+fn bus_word(seed: u64, checked: &[u64], edges: &[u16]) -> Drawn {
+    let half = below(seed, 2);
+    let some = below(half.seed, edges.len() / 2);
+    if half.x == 0 {
+        random::word(some.seed, checked.len())
+    } else {
+        Drawn {
+            x: words::at(checked, edge_at(edges, some.x).to),
+            seed: some.seed,
+        }
     }
 }
 
@@ -365,9 +390,9 @@ fn write_word(tally: Tally, memory: &mut [u64], n: usize, address: usize, word: 
 }
 
 // A register of any number, mostly one that the bus may write.
-fn write_register(walk: Walk, seed: u64, len: usize) -> Walk {
+fn write_register(walk: Walk, seed: u64, n: usize, len: usize) -> Walk {
     let register = below(seed, 34);
-    let word = random::word(register.seed, len);
+    let word = random_address(register.seed, n, len);
     let state = walk.state;
     let written = machine::write_register(state, register.x as u64, word.x as u64);
     let answer = written.answer;

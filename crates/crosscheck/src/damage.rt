@@ -155,7 +155,7 @@ fn aimed_or_resized(code: Code, memory: &mut [u64; 4096]) -> Code {
     }
 }
 
-// A branch, of a guard or not, goes elsewhere.
+// A branch, of a guard or not, goes elsewhere, at times outside code.
 fn aim_branch(code: Code, memory: &mut [u64; 4096]) -> Code {
     let quarter = below(code.seed, 4);
     let kind = if quarter.x == 0 {
@@ -163,7 +163,7 @@ fn aim_branch(code: Code, memory: &mut [u64; 4096]) -> Code {
     } else {
         words::JD
     };
-    let target = below(quarter.seed, sum(code.n, 2));
+    let target = below(quarter.seed, sum(sum(code.n, code.n / 8), 2));
     let place = some_word(target.seed, &*memory, code.n, kind);
     let old = words::at(&*memory, place.x);
     if words::kind(old) == kind {

@@ -27,7 +27,7 @@ refused 15: #
 disagreements #
 lists of calls #
 steps held # (jumps #, stores #), outside the graph #, code changed #
-stops #, of a wrong number #
+stops # (# of them 4), of a wrong number #
 runs #, unlike their steps #
 bus writes #, refused #, answered wrongly #
 ",

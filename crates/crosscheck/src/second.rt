@@ -1,5 +1,5 @@
-// The checker a second time, naive and direct: document 01, "Claimed graph", "Conditions" and "Numbers given", each condition
-// by its own words, sets by nested loops over the edges and guards by comparing words.
+// The checker a second time, naive and direct: document 01, "Claimed graph", "Conditions" and "Numbers given", with K2 of document
+// 02, each condition by its own words, sets by nested loops over the edges and guards by comparing words.
 use crate::edges::NONE;
 use crate::edges::edge_at;
 use crate::sequences;
@@ -227,10 +227,10 @@ fn branch_target(memory: &[u64], address: usize) -> usize {
     words::fields_of(at(memory, address)).w
 }
 
-// The target is outside code, which plain allows, or a word of a sequence but the first.
+// The target is outside code, or a word of a sequence but the first.
 fn target_wrong(guards: bool, memory: &[u64], n: usize, target: usize) -> bool {
     if target >= n {
-        return guards;
+        return true;
     }
     let mut end = target;
     while end < n {

@@ -20,17 +20,19 @@ pub(crate) const CODE_CHANGED: usize = 22;
 
 pub(crate) const STOPS: usize = 23;
 
-pub(crate) const WRONG_STOPS: usize = 24;
+pub(crate) const FOURS: usize = 24;
 
-pub(crate) const RUNS: usize = 25;
+pub(crate) const WRONG_STOPS: usize = 25;
 
-pub(crate) const WRONG_RUNS: usize = 26;
+pub(crate) const RUNS: usize = 26;
 
-pub(crate) const WRITES: usize = 27;
+pub(crate) const WRONG_RUNS: usize = 27;
 
-pub(crate) const REFUSED_WRITES: usize = 28;
+pub(crate) const WRITES: usize = 28;
 
-pub(crate) const WRONG_WRITES: usize = 29;
+pub(crate) const REFUSED_WRITES: usize = 29;
+
+pub(crate) const WRONG_WRITES: usize = 30;
 
 // One more at a place, where it came up.
 pub(crate) fn count(tally: Tally, place: usize, came_up: bool) -> Tally {

@@ -1,7 +1,7 @@
 -- Rule 15: where rules 13 and 14 are kept, a guard sequence ends exactly where its jmp or st stands.
 use Prim.Native.Nat.{ℕ, suc, _+_, _-_, _<_, _≤_}
 use mathlib.Core.Path.{_≡_, refl, sym, ap, subst}
-use mathlib.Core.Bool.{Bool, true, false, _&&_, and-false}
+use mathlib.Core.Bool.{Bool, true, false, _&&_, _||_, and-false}
 use mathlib.Core.List.{List, [], _∷_}
 use mathlib.Core.Option.{Option, none, some}
 use native.Mathlib.Omega.{arith}
@@ -16,8 +16,8 @@ use Rattle.isa.specs.declared.Technique.{Technique}
 use Rattle.isa.specs.Instructions.{instrAt, isJump, isStore, branchTarget}
 use Rattle.guards.specs.declared.Slot.{Slot}
 use Rattle.guards.specs.Sequences.{just, anyRegister, fits, standsAt, endsAt}
-use Rattle.guards.specs.Rules.{storeUnguarded, jumpUnguarded, insideJumpGuard, insideStoreGuard, targetWrong, targetWrongIfAny}
-use Rattle.guards.specs.Patterns.{jumpLength, endingNear, targetBad, targetBadIfAny, branchBad, GuardsKept}
+use Rattle.guards.specs.Rules.{storeUnguarded, jumpUnguarded, insideJumpGuard, insideStoreGuard, insideGuard, targetWrongIfAny}
+use Rattle.guards.specs.Patterns.{jumpLength, endingNear, guardNear, targetBadIfAny, branchBad, GuardsKept}
 
 abbrev lastOf : Slot → List Slot → Slot
 lastOf s [] = s
@@ -84,10 +84,10 @@ inside-store memory n w c =
     (λ h.
     and-right (ltb n (length memory)) _ (not-false _ (and-rest (isStore (instrAt memory a)) _ h (c a l))))))
 
-target-wrong : (t : Technique) (memory : List ℕ) (n : ℕ) (edges : List ℕ) (w : ℕ) → GuardsKept t memory n edges
-    → targetBad t memory n w ≡ targetWrong t memory n edges w
-target-wrong Technique.Plain memory n edges w h = sym (inside-jump Technique.Plain memory n edges w (h .jumps))
-target-wrong Technique.MemoryGuards memory n edges w h =
+guard-near : (t : Technique) (memory : List ℕ) (n : ℕ) (edges : List ℕ) (w : ℕ) → GuardsKept t memory n edges
+    → guardNear t memory n w ≡ insideGuard t memory n edges w
+guard-near Technique.Plain memory n edges w h = sym (inside-jump Technique.Plain memory n edges w (h .jumps))
+guard-near Technique.MemoryGuards memory n edges w h =
     rw (inside-store memory n w (h .stores), inside-jump Technique.MemoryGuards memory n edges w (h .jumps))
 
 pub branch-wrong : (t : Technique) (memory : List ℕ) (n : ℕ) (edges : List ℕ) (i : Instr) → GuardsKept t memory n edges
@@ -96,7 +96,7 @@ branch-wrong t memory n edges i h = go (branchTarget i)
   where
     go : (o : Option ℕ) → targetBadIfAny t memory n o ≡ targetWrongIfAny t memory n edges o
     go none = refl
-    go (some w) = target-wrong t memory n edges w h
+    go (some w) = ap (λ (b : Bool). leb n w || b) (guard-near t memory n edges w h)
 
 -- a search for the last word of a sequence, from w on
 module _ (kind : Instr → Bool) (memory : List ℕ) (len w : ℕ) where

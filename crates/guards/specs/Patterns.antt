@@ -83,9 +83,12 @@ endingKind true i = isStore i
 endingKind false i = isJump i
 
 -- rule 15 by the jmp and st words that stand near
+abbrev pub guardNear : Technique → List ℕ → ℕ → ℕ → Bool
+guardNear Technique.Plain memory n w = endingNear isJump memory n 6 w
+guardNear Technique.MemoryGuards memory n w = endingNear isStore memory n 6 w || endingNear isJump memory n 10 w
+
 abbrev pub targetBad : Technique → List ℕ → ℕ → ℕ → Bool
-targetBad Technique.Plain memory n w = endingNear isJump memory n 6 w
-targetBad Technique.MemoryGuards memory n w = leb n w || (endingNear isStore memory n 6 w || endingNear isJump memory n 10 w)
+targetBad t memory n w = leb n w || guardNear t memory n w
 
 abbrev pub targetBadIfAny : Technique → List ℕ → ℕ → Option ℕ → Bool
 targetBadIfAny t memory n none = false

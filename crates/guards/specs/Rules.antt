@@ -33,12 +33,16 @@ insideJumpGuard t memory n edges w = any (λ a. insideEnding memory (jumpGuard t
 unfoldable pub insideStoreGuard : List ℕ → ℕ → ℕ → Bool
 insideStoreGuard memory n w = any (λ a. insideEnding memory (storeGuard n (length memory)) w a) n
 
--- "A target of bgt or jd is no word of such a sequence, its jmp counted, but the first. A target outside code is allowed.";
--- "Targets of bgt and jd are in code, and no word of either sequence, its jmp or st counted, but the first."
+-- plain, "a word of such a sequence, its jmp counted, but the first"; with memory guards, "of either sequence, its jmp or st counted"
+abbrev pub insideGuard : Technique → List ℕ → ℕ → List ℕ → ℕ → Bool
+insideGuard Technique.Plain memory n edges w = insideJumpGuard Technique.Plain memory n edges w
+insideGuard Technique.MemoryGuards memory n edges w =
+    insideStoreGuard memory n w || insideJumpGuard Technique.MemoryGuards memory n edges w
+
+-- "Targets of bgt and jd are in code", asked of plain code too since K2 (document 02): "Plain code must from now on keep those
+-- targets in code, under 15, as with memory guards."; and none is such a word of a guard
 abbrev pub targetWrong : Technique → List ℕ → ℕ → List ℕ → ℕ → Bool
-targetWrong Technique.Plain memory n edges w = insideJumpGuard Technique.Plain memory n edges w
-targetWrong Technique.MemoryGuards memory n edges w =
-    leb n w || (insideStoreGuard memory n w || insideJumpGuard Technique.MemoryGuards memory n edges w)
+targetWrong t memory n edges w = leb n w || insideGuard t memory n edges w
 
 abbrev pub targetWrongIfAny : Technique → List ℕ → ℕ → List ℕ → Option ℕ → Bool
 targetWrongIfAny t memory n edges none = false

@@ -12,13 +12,14 @@ use Rattle.lists.proofs.Bools.{clash, and-left, and-right}
 use Rattle.answers.specs.Shape.{memoryShaped}
 use Rattle.answers.proofs.Shape.{shaped}
 use Rattle.isa.specs.declared.Technique.{Technique}
+use Rattle.machine.specs.Numbers.{outcomeNumber}
 use Rattle.machine.specs.Steps.{stateOf}
 use Rattle.machine.specs.declared.RegisterWritten.{RegisterWritten}
 use Rattle.machine.specs.Bus.{inData, writeDataMemory, writeRegisterOf}
 use Rattle.checker.specs.Conditions.{Conditions}
 use Rattle.checker.proofs.Equivalence.{accepted-exactly}
-use Rattle.integrity.specs.Calls.{Call, Config, config, afterCall}
-use Rattle.integrity.specs.Demand.{fresh, Held, Demand3}
+use Rattle.integrity.specs.Calls.{Call, Config, config, Event, afterCall}
+use Rattle.integrity.specs.Demand.{fresh, Held, Demand3, FourAtJump, StopFourAtJumps}
 use Rattle.integrity.proofs.Inside.{Inv}
 use Rattle.integrity.proofs.Steps.{step-good}
 use Rattle.integrity.proofs.Traversal.{Carries, traversed}
@@ -93,3 +94,12 @@ demand-3 t code checked edges accepted registers dataWords count size calls =
     let ok = accepted-exactly .sound t (code ++ checked) (length code) edges accepted in
     traversed t (length code) (Kept t code checked edges ok) (Held t code edges) (carries t code checked edges ok) calls
     (fresh registers code dataWords) (at-start t code checked edges ok registers dataWords count size)
+
+four-at-jump : (code edges : List ℕ) (e : Event) → Held Technique.Plain code edges e → FourAtJump code edges e
+four-at-jump code edges (Event.Stands c) held = tt
+four-at-jump code edges (Event.Tried before outcome after) held =
+    λ four. held .stop-allowed (λ made. clash (cc)) (ap outcomeNumber four)
+
+pub stop-four-at-jumps : StopFourAtJumps
+stop-four-at-jumps code checked edges accepted registers dataWords count size calls e there =
+    four-at-jump code edges e (demand-3 Technique.Plain code checked edges accepted registers dataWords count size calls e there)

@@ -41,7 +41,7 @@ pub address-small : (x w : ℕ) → x + w < 2 ^ 64 → addressOf x w ≡ x + w
 unfolding addressOf
 address-small x w h = omega arith
 
--- a next pc that the step allows and that is in code where the technique asks it, is in code
+-- where a jmp is let go is in code: plain, by the step's own test; with memory guards, by what its guard has shown
 pub in-bounds : (t : Technique) (n q : ℕ) → nextAllowed t n q ≡ true → (t ≡ Technique.MemoryGuards → q < n) → q < n
 in-bounds Technique.Plain n q e h = ltb-true q n e
 in-bounds Technique.MemoryGuards n q e h = h refl

@@ -10,7 +10,7 @@ use Rattle.graph.specs.Claim.{isEdge, hasEdge, isDestination, idOf}
 use Rattle.guards.specs.Sequences.{fits, standsAt, endsAt}
 use Rattle.guards.specs.Rules.{insideJumpGuard, insideStoreGuard}
 use Rattle.checker.specs.Verdicts.{firstBroken, verdictOf}
-use Rattle.integrity.specs.Examples.{ProgramsAccepted, CallsMade}
+use Rattle.integrity.specs.Examples.{ProgramsAccepted, CallsMade, StopFourShown}
 
 pub programs-accepted : ProgramsAccepted
 unfolding verdictOf firstBroken lowest any isEdge hasEdge isDestination idOf fits standsAt endsAt insideJumpGuard insideStoreGuard decodeOf encodeOf wordOf
@@ -19,3 +19,15 @@ programs-accepted = record { post = refl; guards = λ d. refl }
 pub calls-made : (r : ℕ → ℕ) (d : ℕ) → CallsMade r d
 unfolding decodeOf encodeOf wordOf addressOf loadOf storeOf effectOf settleOf intentOf afterOf memoryAfter stepOf stepMemory writeDataMemory writeRegisterOf runFrom runMemoryFrom runOf runMemory
 calls-made r d = record { post-steps = refl; post-ends = refl; guarded-steps = refl; guarded-stores = refl }
+
+pub stop-four-shown : (r : ℕ → ℕ) → StopFourShown r
+unfolding verdictOf firstBroken lowest any isEdge hasEdge isDestination idOf fits standsAt endsAt insideJumpGuard insideStoreGuard decodeOf encodeOf wordOf addressOf loadOf storeOf effectOf settleOf intentOf afterOf memoryAfter stepOf stepMemory writeRegisterOf runFrom runMemoryFrom runOf runMemory
+stop-four-shown r =
+    record {
+      branch-to-last = refl;
+      branch-out = refl;
+      branch-would-stop = refl;
+      jump-accepted = refl;
+      jump-stops = refl;
+      stands-at-jump = refl;
+    }

@@ -17,7 +17,7 @@ use Rattle.answers.specs.Shape.{memoryShaped}
 use Rattle.isa.specs.declared.Instr.{Instr}
 use Rattle.isa.specs.declared.Technique.{Technique}
 use Rattle.isa.specs.Words.{decodeOf}
-use Rattle.isa.specs.Instructions.{instrAt, branchTarget, isLoad}
+use Rattle.isa.specs.Instructions.{instrAt, branchTarget, isJump, isLoad}
 use Rattle.machine.specs.declared.Stop.{Stop}
 use Rattle.machine.specs.declared.Outcome.{Outcome}
 use Rattle.machine.specs.declared.Effect.{Effect}
@@ -42,7 +42,7 @@ use Rattle.machine.specs.Steps.{
   stepMemory,
 }
 use Rattle.graph.specs.Claim.{idOf, successorBy, isSuccessor}
-use Rattle.checker.specs.Conditions.{TargetInCode, Conditions}
+use Rattle.checker.specs.Conditions.{Conditions}
 use Rattle.checker.proofs.Listed.{listed-edge}
 use Rattle.integrity.specs.Calls.{Config, config, triedAt, afterStep}
 use Rattle.integrity.specs.Demand.{StopAllowed, StepHeld, Held}
@@ -80,17 +80,22 @@ same x = eq-eqb x x refl
 
 -- stops 2 and 3
 at-illegal : (t : Technique) (code : List ℕ) (pc : ℕ) → StopAllowed t code pc 2
-at-illegal Technique.Plain code pc = tt
+at-illegal Technique.Plain code pc = λ four. clash (omega arith)
 at-illegal Technique.MemoryGuards code pc = inl refl
 
 at-load : (t : Technique) (code : List ℕ) (pc : ℕ) → isLoad (instrAt code pc) ≡ true → StopAllowed t code pc 3
-at-load Technique.Plain code pc e = tt
+at-load Technique.Plain code pc e = λ four. clash (omega arith)
 at-load Technique.MemoryGuards code pc e = inr (refl, e)
 
--- stop 4 is for plain steps only
-at-next : (t : Technique) (code : List ℕ) (pc n q : ℕ) → nextAllowed t n q ≡ false → StopAllowed t code pc 4
-at-next Technique.Plain code pc n q e = tt
-at-next Technique.MemoryGuards code pc n q e = clash (cc)
+-- stop 4 is for plain steps only, at a jmp
+at-jump : (t : Technique) (code : List ℕ) (pc n q : ℕ) → isJump (instrAt code pc) ≡ true → nextAllowed t n q ≡ false
+    → StopAllowed t code pc 4
+at-jump Technique.Plain code pc n q e out = λ _. e
+at-jump Technique.MemoryGuards code pc n q e out = clash (cc)
+
+in-code-allowed : (t : Technique) (n q : ℕ) → q < n → nextAllowed t n q ≡ true
+in-code-allowed Technique.Plain n q h = lt-ltb q n h
+in-code-allowed Technique.MemoryGuards n q h = refl
 
 fetch-reaches : (t : Technique) (n len pc : ℕ) → pc < n → n ≤ len → ltb pc (fetchEnd t n len) ≡ true
 fetch-reaches Technique.Plain n len pc h l = lt-ltb pc n h
@@ -148,7 +153,7 @@ module _ (t : Technique) (code checked edges : List ℕ) (ok : Conditions t (cod
       → Tells (Instr.St rd rs w)
       (cond b (Effect.PutWord (addressOf (reg rd) w) (reg rs) (pc + 1)) (Effect.Stop Stop.Access))
   stores Technique.Plain u rd rs w e true p = puts _ _ (leb-true n _ (and-left _ _ p)) (same (pc + 1)) refl
-  stores Technique.Plain u rd rs w e false p = stops Stop.Access (rw u tt)
+  stores Technique.Plain u rd rs w e false p = stops Stop.Access (rw u (λ four. clash (omega arith)))
   stores Technique.MemoryGuards u rd rs w e true p = puts _ _ (store-here t memory n edges ok c inv u rd rs w e .0) (same (pc + 1)) refl
   stores Technique.MemoryGuards u rd rs w e false p =
       let h = store-here t memory n edges ok c inv u rd rs w e in
@@ -237,16 +242,15 @@ module _ (t : Technique) (code checked edges : List ℕ) (ok : Conditions t (cod
       made-good i here (pc + 1) regs′ m′ (falls-in i here by) by kept size count
       (fallen-next t memory n edges ok c inv (view regs′) (rw here falls))
 
-  -- a branch lands inside no guard
+  -- a branch stays in code, and lands inside no guard
+  branch-in : (i : Instr) → instrAt memory pc ≡ i → (w : ℕ) → branchTarget i ≡ some w → w < n
+  branch-in i here w b = ok .instrumented .targets-in-code pc w (inv .in-code) (ap branchTarget here ∙ b)
+
   branch-good : (i : Instr) → instrAt memory pc ≡ i → (w : ℕ) → branchTarget i ≡ some w → successorBy i edges pc w ≡ true
-      → nextAllowed t n w ≡ true
       → MadeTo w regs (c .memory)
-  branch-good i here w b by next =
-      let target : branchTarget (instrAt memory pc) ≡ some w = ap branchTarget here ∙ b in
-      let out = ok .instrumented .targets-outside-guards pc w (inv .in-code) target in
-      let asked = ok .instrumented .targets-in-code pc w (inv .in-code) target in
-      let to : w < n = in-bounds t n w next (λ u. subst (λ (x : Technique). TargetInCode t memory n edges x w) u asked) in
-      made-good i here w regs (c .memory) to by (inv .code-same) (inv .size-same) (inv .registers)
+  branch-good i here w b by =
+      let out = ok .instrumented .targets-outside-guards pc w (inv .in-code) (ap branchTarget here ∙ b) in
+      made-good i here w regs (c .memory) (branch-in i here w b) by (inv .code-same) (inv .size-same) (inv .registers)
       (λ p. absurd
       (not-inner t memory n edges w (out .0) (out .1) (p .last) (p .slots) (p .in-code) (p .guard)
       (record {
@@ -265,32 +269,34 @@ module _ (t : Technique) (code checked edges : List ℕ) (ok : Conditions t (cod
       made-good (Instr.Jmp rs) here q regs (c .memory) to (listed-edge edges pc q (lands .1)) (inv .code-same) (inv .size-same)
       (inv .registers) (λ p. absurd (inside-no-label t memory n edges q (idOf edges n pc) p (lands .0)))
 
-  -- stop 4, or the effect
-  settled : (e : Effect) (q : ℕ) → (nextAllowed t n q ≡ true → Good e) → (b : Bool) → nextAllowed t n q ≡ b
-      → Good (cond b e (Effect.Stop Stop.Next))
-  settled e q good true p = good p
-  settled e q good false p = stop-good Stop.Next (at-next t code pc n q p)
+  -- an effect whose next pc is in code is not stopped
+  unstopped : (e : Effect) (q : ℕ) → q < n → Good e → Good (cond (nextAllowed t n q) e (Effect.Stop Stop.Next))
+  unstopped e q to good = rw (in-code-allowed t n q to) good
+
+  -- stop 4, or the jump
+  jumped : (rs : ℕ) → instrAt memory pc ≡ Instr.Jmp rs → (b : Bool) → nextAllowed t n (reg rs) ≡ b
+      → Good (cond b (Effect.Go (reg rs)) (Effect.Stop Stop.Next))
+  unfolding afterOf memoryAfter
+  jumped rs here true p = jump-good rs here p
+  jumped rs here false p = stop-good Stop.Next (at-jump t code pc n (reg rs) (ap isJump (sym code-word ∙ here)) p)
 
   told-good : (i : Instr) → instrAt memory pc ≡ i → (e : Effect) → Tells i e → Good (settleOf t n e)
   unfolding settleOf afterOf memoryAfter
   told-good i here _ (goes by falls) =
-      settled (Effect.Go (pc + 1)) (pc + 1)
-      (λ _. falls-good i here regs (c .memory) by (inv .code-same) (inv .size-same) (inv .registers) falls) _ refl
+      unstopped (Effect.Go (pc + 1)) (pc + 1) (falls-in i here by)
+      (falls-good i here regs (c .memory) by (inv .code-same) (inv .size-same) (inv .registers) falls)
   told-good i here _ (sets rd value by falls) =
-      settled (Effect.SetRegister rd value (pc + 1)) (pc + 1)
-      (λ _. falls-good i here (set regs rd value) (c .memory) by (inv .code-same) (inv .size-same)
+      unstopped (Effect.SetRegister rd value (pc + 1)) (pc + 1) (falls-in i here by)
+      (falls-good i here (set regs rd value) (c .memory) by (inv .code-same) (inv .size-same)
       (length-set regs rd value ∙ inv .registers) falls)
-      _ refl
   told-good i here _ (puts address value high by falls) =
-      settled (Effect.PutWord address value (pc + 1)) (pc + 1)
-      (λ _. falls-good i here regs (set (c .memory) address value) by
+      unstopped (Effect.PutWord address value (pc + 1)) (pc + 1) (falls-in i here by)
+      (falls-good i here regs (set (c .memory) address value) by
       (take-set-le n (c .memory) address value high ∙ inv .code-same)
       (length-set (c .memory) address value ∙ inv .size-same)
       (inv .registers) falls)
-      _ refl
-  told-good i here _ (branches w b by) = settled (Effect.Go w) w (branch-good i here w b by) _ refl
-  told-good i here _ (jumps rs e) =
-      settled (Effect.Go (reg rs)) (reg rs) (jump-good rs (here ∙ e)) _ refl
+  told-good i here _ (branches w b by) = unstopped (Effect.Go w) w (branch-in i here w b) (branch-good i here w b by)
+  told-good i here _ (jumps rs e) = jumped rs (here ∙ e) _ refl
   told-good i here _ (stops stop a) = stop-good stop a
 
   intent-good : Good (intentOf t n (c .memory) (c .state))

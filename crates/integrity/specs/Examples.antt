@@ -1,15 +1,20 @@
 -- Demand 3 says something: two accepted programs, one for each technique, and lists of calls over them whose steps and bus writes are
--- made, from any registers.
+-- made, from any registers; and stop 4, where a branch may not meet it and where a jmp does.
 use Prim.Native.Nat.{ℕ, zero, suc}
 use mathlib.Core.Path.{_≡_}
 use mathlib.Core.List.{List, [], _∷_, _++_, map}
+use lib.ListN.{set}
+use Rattle.answers.specs.declared.Refusal.{Refusal}
+use Rattle.answers.specs.declared.Place.{Place}
 use Rattle.answers.specs.declared.Verdict.{Verdict}
 use Rattle.isa.specs.declared.Instr.{Instr}
 use Rattle.isa.specs.declared.Technique.{Technique}
 use Rattle.isa.specs.Words.{encodeOf}
 use Rattle.isa.specs.PostProgram.{postCode, postEdges}
+use Rattle.machine.specs.declared.Stop.{Stop}
+use Rattle.machine.specs.declared.Ending.{Ending}
 use Rattle.checker.specs.Verdicts.{verdictOf}
-use Rattle.integrity.specs.Calls.{Call, trace, stepsMade, afterAll}
+use Rattle.integrity.specs.Calls.{Call, trace, stepsMade, endingBy, afterAll}
 use Rattle.integrity.specs.Demand.{fresh}
 
 -- a program with both memory guards, for one data word, at address 18: its st, at 5, stores r6 where r5 says; its jmp, at 15, goes
@@ -52,3 +57,25 @@ pub record CallsMade (r : ℕ → ℕ) (d : ℕ) : Type 0 where
       stepsMade (trace Technique.MemoryGuards 18 guardedCalls (fresh (registersFrom r 0 32) guarded (d ∷ []))) ≡ 17
   pub guarded-stores :
       afterAll Technique.MemoryGuards 18 guardedCalls (fresh (registersFrom r 0 32) guarded (d ∷ [])) .memory ≡ guarded ++ 99 ∷ []
+
+-- the post program with its first word made a branch to w: its last code word is at 8
+abbrev pub branchTo : ℕ → List ℕ
+branchTo w = set postCode 0 (encodeOf (Instr.Jd w))
+
+-- a step; r5 aimed at a data word, at 9, that is the word of the label; a run to the stop
+abbrev pub outwardCalls : List Call
+outwardCalls = Call.Step ∷ Call.WriteRegister 5 9 ∷ Call.Run 100 ∷ []
+
+-- What K2 is about, from registers r 0 to r 31: a branch to the last code word is accepted, and one past it is not, since its step
+-- would give stop 4; an accepted program meets that stop at its jmp, at 6.
+pub record StopFourShown (r : ℕ → ℕ) : Type 0 where
+  pub branch-to-last : verdictOf Technique.Plain (branchTo 8) 9 postEdges ≡ Verdict.Accepted
+  pub branch-out : verdictOf Technique.Plain (branchTo 9) 9 postEdges ≡ Verdict.Refused Refusal.BranchTarget (Place.Address 0)
+  pub branch-would-stop :
+      endingBy Ending.Spent (trace Technique.Plain 9 (Call.Step ∷ []) (fresh (registersFrom r 0 32) (branchTo 9) []))
+      ≡ Ending.Stopped Stop.Next
+  pub jump-accepted : verdictOf Technique.Plain (postCode ++ 7 ∷ []) 9 postEdges ≡ Verdict.Accepted
+  pub jump-stops :
+      endingBy Ending.Spent (trace Technique.Plain 9 outwardCalls (fresh (registersFrom r 0 32) postCode (7 ∷ [])))
+      ≡ Ending.Stopped Stop.Next
+  pub stands-at-jump : afterAll Technique.Plain 9 outwardCalls (fresh (registersFrom r 0 32) postCode (7 ∷ [])) .state .pc ≡ 6

@@ -2,9 +2,9 @@
 use Rattle.isa.proofs.Words.{round-trips}
 use Rattle.machine.proofs.Theorems.{unmade-changes-nothing, step-then-run}
 use Rattle.checker.proofs.Equivalence.{accepted-exactly}
-use Rattle.integrity.proofs.Demand.{demand-3}
+use Rattle.integrity.proofs.Demand.{demand-3, stop-four-at-jumps}
 use Rattle.integrity.proofs.Traversal.{run-is-its-steps}
-use Rattle.integrity.proofs.Shown.{programs-accepted, calls-made}
+use Rattle.integrity.proofs.Shown.{programs-accepted, calls-made, stop-four-shown}
 use Rattle.parcel.proofs.RoundTrips.{read-written, written-read}
 use Rattle.parcel.proofs.Calls.{read-after-write, write-after-read}
 use Rattle.line.proofs.Theorems.{prefix-suffices}
@@ -40,5 +40,7 @@ kept =
       refused-reports-change-nothing = refused-reports-change-nothing;
       reports-shown = reports-shown;
       totals-shown = totals-shown;
+      stop-four-at-jumps = stop-four-at-jumps;
+      stop-four-shown = stop-four-shown;
       rows = table;
     }

@@ -11,8 +11,8 @@ use Rattle.isa.specs.Theorems.{RoundTrips}
 use Rattle.machine.specs.declared.State.{State}
 use Rattle.machine.specs.Theorems.{UnmadeChangesNothing, StepThenRun}
 use Rattle.checker.specs.Theorems.{AcceptedExactly}
-use Rattle.integrity.specs.Demand.{Demand3, RunIsItsSteps}
-use Rattle.integrity.specs.Examples.{ProgramsAccepted, CallsMade}
+use Rattle.integrity.specs.Demand.{Demand3, StopFourAtJumps, RunIsItsSteps}
+use Rattle.integrity.specs.Examples.{ProgramsAccepted, CallsMade, StopFourShown}
 use Rattle.parcel.specs.Theorems.{ReadWritten, WrittenRead, ReadAfterWrite, WriteAfterRead}
 use Rattle.line.specs.Theorems.{PrefixSuffices}
 use Rattle.table.specs.Table.{Table}
@@ -34,7 +34,7 @@ pub record Promises : Type 0 where
   pub write-after-read : WriteAfterRead
   -- The first 40,973 bytes of an input decide what `verdict` prints.
   pub prefix-suffices : PrefixSuffices
-  -- Code is accepted exactly where it meets the published conditions, plain or with memory guards.
+  -- Code is accepted exactly where it meets the published conditions, plain (with the clause of K2) or with memory guards.
   pub accepted-exactly : AcceptedExactly
   -- A run of one step more is a step and then the run;
   pub step-then-run : (t : Technique) (n : ℕ) (memory : List ℕ) (s : State) (k : ℕ) → StepThenRun t n memory s k
@@ -45,7 +45,8 @@ pub record Promises : Type 0 where
   -- and a refused call from C or Rust changes nothing that was lent.
   pub refused-changes-nothing : RefusedChangesNothing
   -- For every list of steps, runs and bus writes over an accepted program: each step made is an edge of the claimed graph, the code
-  -- words stay as checked, and with memory guards a step that cannot be made stands at an illegal word or at a load outside memory.
+  -- words stay as checked, plain a step that gives stop 4 stands at a jmp, and with memory guards a step that cannot be made stands at an
+  -- illegal word or at a load outside memory.
   pub demand-3 : Demand3
   -- That is about something: programs that are accepted, and calls over them that are made.
   pub programs-accepted : ProgramsAccepted
@@ -61,5 +62,9 @@ pub record Promises : Type 0 where
   -- Those too are about something: reports and totals of the post program.
   pub reports-shown : ReportsShown
   pub totals-shown : TotalsShown
+  -- K2: over an accepted plain program a step gives stop 4 at a jmp only, whatever the calls. Demand 3 has this claim too;
+  pub stop-four-at-jumps : StopFourAtJumps
+  -- a branch past the code is refused, and a jmp that meets stop 4 is shown.
+  pub stop-four-shown : (registers : ℕ → ℕ) → StopFourShown registers
   -- The starred rows of document 01.
   pub rows : Table

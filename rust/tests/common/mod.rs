@@ -187,7 +187,7 @@ pub fn accepted(r: &mut Random, technique: Technique, n: usize, d: usize) -> Pro
                 Op::Bgt(2, 0, halt),
                 Op::St(0, r.below(32) as u8, 0),
             ]),
-            Block::Other => code.push(other(r, guards, n, &first_words)),
+            Block::Other => code.push(other(r, guards, &first_words)),
         }
     }
     code.push(Op::Illegal);
@@ -205,14 +205,9 @@ pub fn accepted(r: &mut Random, technique: Technique, n: usize, d: usize) -> Pro
     Program { memory, n, edges: pairs.into_iter().flat_map(|(j, t)| [j as u16, t as u16]).collect() }
 }
 
-fn other(r: &mut Random, guards: bool, n: usize, first_words: &[usize]) -> Op {
+fn other(r: &mut Random, guards: bool, first_words: &[usize]) -> Op {
     let register = |r: &mut Random| r.below(32) as u8;
-    let target = |r: &mut Random| {
-        if !guards && r.chance(5) {
-            return (n + r.below(5000)) as u32;
-        }
-        r.pick(first_words) as u32
-    };
+    let target = |r: &mut Random| r.pick(first_words) as u32;
     match r.below(8) {
         0 => Op::Add(register(r), register(r), register(r)),
         1 => Op::Addi(register(r), register(r), r.w() as u32),
@@ -229,7 +224,7 @@ fn other(r: &mut Random, guards: bool, n: usize, first_words: &[usize]) -> Op {
 pub fn without_jumps(r: &mut Random, technique: Technique, n: usize, d: usize) -> Program {
     let guards = technique == Technique::MemoryGuards;
     let all: Vec<usize> = (0..n).collect();
-    let mut memory: Vec<u64> = (1..n).map(|_| encode(other(r, guards, n, &all))).collect();
+    let mut memory: Vec<u64> = (1..n).map(|_| encode(other(r, guards, &all))).collect();
     memory.push(encode(Op::Illegal));
     memory.extend((0..d).map(|_| r.odd_number()));
     Program { memory, n, edges: Vec::new() }
@@ -256,6 +251,15 @@ pub fn parcel_of(p: &Program) -> Option<Vec<u8>> {
     Some(parcel)
 }
 
+/// A target of a branch: in code, just past it, or far outside.
+fn some_target(r: &mut Random, n: usize) -> u32 {
+    match r.below(8) {
+        0 => (n + r.below(5000)) as u32,
+        1 => u32::MAX - r.below(3) as u32,
+        _ => r.below(n + 2) as u32,
+    }
+}
+
 /// Damages a program in one place, in one of many ways.
 pub fn damage(r: &mut Random, p: &mut Program) {
     let n = p.n.min(p.memory.len()).max(1);
@@ -266,8 +270,8 @@ pub fn damage(r: &mut Random, p: &mut Program) {
         0 => p.memory[at] ^= 1 << r.below(64),
         1 => p.memory[at] = r.instruction_word(),
         2 => p.memory[at] = encode(Op::Label(r.below(n) as u32)),
-        3 => p.memory[at] = encode(Op::Jd(r.below(n + 2) as u32)),
-        4 => p.memory[at] = encode(Op::Bgt(r.below(3) as u8, r.below(3) as u8, r.below(n + 2) as u32)),
+        3 => p.memory[at] = encode(Op::Jd(some_target(r, n))),
+        4 => p.memory[at] = encode(Op::Bgt(r.below(3) as u8, r.below(3) as u8, some_target(r, n))),
         5 => p.memory[at] = encode(Op::Illegal),
         6 => {
             let other = r.below(n);

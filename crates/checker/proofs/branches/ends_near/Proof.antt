@@ -21,44 +21,39 @@ ends-near-spec =
     (tie.spec
     Inv-loop
     μ-loop
-    (λ c.
-    let entry = c .before .before in
-    near-none (endingKind (entry .args .store)) (entry .args .memory .now) (entry .args .len) (entry .args .w) _ _
-    (near-before (endingKind (entry .args .store)) (entry .args .memory .now) (entry .args .len) (entry .args .w))
-    (λ x l q. absurd (let z = c .if1 .taken in omega arith)))
     (λ c. search needs)
     (λ c. search needs)
     (λ c κs. search needs)
     (λ c.
-    let entry = c .before .before .before in (
+    let entry = c .before .before in (
       search needs,
-      let z = c .lesser .ensures in let y = c .before .if1 .left in let x = entry .pre .2 in omega arith,
+      let z = c .lesser .ensures in let x = entry .pre .2 in omega arith,
       near-before
           (endingKind (entry .args .store)) (entry .args .memory .now) (entry .args .len) (entry .args .w),
     ))
     (λ c κs. search needs)
     (λ c.
-    let entry = c .before .before .before .before .before .before .before in
+    let entry = c .before .before .before .before .before .before in
     let lesser = c .before .before .before .before .lesser in
     let loop = c .before .before .before .loop in
     let test = c .before .before .loop-test in
     near-hit (endingKind (entry .args .store)) (entry .args .memory .now) (entry .args .len) (entry .args .w) _ _
     (let z = lesser .ensures in let y = test .taken in omega arith) (loop .inv .0)
     (let z = lesser .ensures in let y = test .taken in let x = entry .pre .2 in omega arith) (sym
-    (c .before .kind-at .ensures) ∙ c .if2 .taken))
+    (c .before .kind-at .ensures) ∙ c .if1 .taken))
     (λ c. search needs)
     (λ c. search needs)
     (λ c.
-    let entry = c .before .before .before .before .before .before .before in
+    let entry = c .before .before .before .before .before .before in
     let loop = c .before .before .before .loop in (
       search needs,
       search needs,
       clean-more _ _ (loop .inv .2) (near-not (endingKind (entry .args .store))
           (entry .args .memory .now) (entry .args .len) (entry .args .w) _ (sym (c .before .kind-at .ensures)
-          ∙ c .if2 .left)),
+          ∙ c .if1 .left)),
     ))
     (λ c.
-    let entry = c .before .before .before .before .before in
+    let entry = c .before .before .before .before in
     let lesser = c .before .before .lesser in
     near-none (endingKind (entry .args .store)) (entry .args .memory .now) (entry .args .len) (entry .args .w) _ _
     (c .before .loop .inv .2)
