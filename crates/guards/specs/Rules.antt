@@ -33,7 +33,8 @@ insideJumpGuard t memory n edges w = any (λ a. insideEnding memory (jumpGuard t
 unfoldable pub insideStoreGuard : List ℕ → ℕ → ℕ → Bool
 insideStoreGuard memory n w = any (λ a. insideEnding memory (storeGuard n (length memory)) w a) n
 
--- plain, "a word of such a sequence, its jmp counted, but the first"; with memory guards, "of either sequence, its jmp or st counted"
+-- w is a "word of such a sequence, its jmp counted, but the first"; with memory guards, a "word of either sequence, its jmp or st
+-- counted, but the first"
 abbrev pub insideGuard : Technique → List ℕ → ℕ → List ℕ → ℕ → Bool
 insideGuard Technique.Plain memory n edges w = insideJumpGuard Technique.Plain memory n edges w
 insideGuard Technique.MemoryGuards memory n edges w =
