@@ -1,7 +1,7 @@
 -- Rule 15: where rules 13 and 14 are kept, a guard sequence ends exactly where its jmp or st stands.
 use Prim.Native.Nat.{ℕ, suc, _+_, _-_, _<_, _≤_}
 use mathlib.Core.Path.{_≡_, refl, sym, ap, subst}
-use mathlib.Core.Bool.{Bool, true, false, _&&_, _||_, and-false}
+use mathlib.Core.Bool.{Bool, true, false, _&&_, and-false}
 use mathlib.Core.List.{List, [], _∷_}
 use mathlib.Core.Option.{Option, none, some}
 use native.Mathlib.Omega.{arith}
@@ -96,7 +96,7 @@ branch-wrong t memory n edges i h = go (branchTarget i)
   where
     go : (o : Option ℕ) → targetBadIfAny t memory n o ≡ targetWrongIfAny t memory n edges o
     go none = refl
-    go (some w) = ap (λ (b : Bool). leb n w || b) (guard-near t memory n edges w h)
+    go (some w) = rw (guard-near t memory n edges w h)
 
 -- a search for the last word of a sequence, from w on
 module _ (kind : Instr → Bool) (memory : List ℕ) (len w : ℕ) where
