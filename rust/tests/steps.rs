@@ -300,6 +300,7 @@ fn lists_of_calls() {
         let n = 1 + r.below(60);
         let d = r.below(20);
         let program = accepted(&mut r, technique, n, d);
+        assert_eq!(reference::checkers::check(technique, &program.memory, n, &program.edges), (0, 0, 0));
         let mut both = Both::new(registers(&mut r, n + d), 0, &program.memory, 33);
         for _ in 0..1 + r.below(40) {
             calls += 1;

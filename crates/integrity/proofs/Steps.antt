@@ -7,7 +7,7 @@ use mathlib.Core.Option.{some}
 use mathlib.Core.List.{List, _++_}
 use native.Mathlib.Omega.{arith}
 use native.Mathlib.Decide.{decLt}
-use lib.Dec.{ltb, leb, eqb}
+use lib.Dec.{ltb, leb, eqb, lit<}
 use lib.ListN.{length, getD, set, take, length-set, List·getD-append}
 use lib.Seq.{getD-take, take-set-le, take-append-seam}
 use borrow.Author.Tests.{ltb-false, lt-ltb, leb-true, le-leb, eq-eqb}
@@ -78,13 +78,17 @@ data Told (t : Technique) (code memory edges : List ℕ) (c : Config) (i : Instr
 same : (x : ℕ) → eqb x x ≡ true
 same x = eq-eqb x x refl
 
+-- of plain stops only 4 is restricted
+below-four : (code : List ℕ) (pc number : ℕ) → number < 4 → StopAllowed Technique.Plain code pc number
+below-four code pc number h = λ four. clash (omega arith)
+
 -- stops 2 and 3
 at-illegal : (t : Technique) (code : List ℕ) (pc : ℕ) → StopAllowed t code pc 2
-at-illegal Technique.Plain code pc = λ four. clash (omega arith)
+at-illegal Technique.Plain code pc = below-four code pc 2 (lit< tt)
 at-illegal Technique.MemoryGuards code pc = inl refl
 
 at-load : (t : Technique) (code : List ℕ) (pc : ℕ) → isLoad (instrAt code pc) ≡ true → StopAllowed t code pc 3
-at-load Technique.Plain code pc e = λ four. clash (omega arith)
+at-load Technique.Plain code pc e = below-four code pc 3 (lit< tt)
 at-load Technique.MemoryGuards code pc e = inr (refl, e)
 
 -- stop 4 is for plain steps only, at a jmp
@@ -153,7 +157,7 @@ module _ (t : Technique) (code checked edges : List ℕ) (ok : Conditions t (cod
       → Tells (Instr.St rd rs w)
       (cond b (Effect.PutWord (addressOf (reg rd) w) (reg rs) (pc + 1)) (Effect.Stop Stop.Access))
   stores Technique.Plain u rd rs w e true p = puts _ _ (leb-true n _ (and-left _ _ p)) (same (pc + 1)) refl
-  stores Technique.Plain u rd rs w e false p = stops Stop.Access (rw u (λ four. clash (omega arith)))
+  stores Technique.Plain u rd rs w e false p = stops Stop.Access (rw u (below-four code pc 3 (lit< tt)))
   stores Technique.MemoryGuards u rd rs w e true p = puts _ _ (store-here t memory n edges ok c inv u rd rs w e .0) (same (pc + 1)) refl
   stores Technique.MemoryGuards u rd rs w e false p =
       let h = store-here t memory n edges ok c inv u rd rs w e in
