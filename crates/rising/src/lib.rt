@@ -1,0 +1,37 @@
+// Edges in a fixed sequence (document 02, K3), tested on the numbers alone: number 18, for the checkers and for the writer.
+ghost use mathlib.Core.Path.{_≡_};
+ghost use Prim.Native.Nat.{_<_};
+ghost use Rattle.graph.specs.Claim.{edgeCount};
+ghost use Rattle.rising.specs.Rising.{firstNotRising};
+ghost use Rattle.rising.specs.Inside.{IsRank};
+
+// Number 18: the first edge that is not above the one before it, or how many edges there are.
+pub fn first_not_rising(edges: &[u16]) -> usize
+    ensures { λ r. ⌜ r ≡ firstNotRising (now (edges .entry)) ⌝ }
+{
+    let m = edges.len() / 2;
+    if m == 0 {
+        return 0;
+    }
+    let mut before = rank(edges, 0);
+    let mut k = 1;
+    while k < m {
+        let here = rank(edges, k);
+        if here <= before {
+            return k;
+        }
+        before = here;
+        k += 1;
+    }
+    k
+}
+
+// The jump's address and the target as one number, which is higher for a higher jump, and of one jump for a higher target.
+fn rank(edges: &[u16], k: usize) -> u32
+    requires { ⌜ k < edgeCount (now edges) ⌝ }
+    ensures { λ r. ⌜ IsRank r (now (edges .entry)) k ⌝ }
+{
+    let jump = edges[2 * k];
+    let target = edges[2 * k + 1];
+    jump as u32 * 65536 + target as u32
+}
