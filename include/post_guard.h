@@ -12,12 +12,14 @@
  *   all a caller owes: every number is allowed everywhere.
  * - A call changes nothing but what its comment says, and nothing in a place past what it puts there. Where a call is
  *   refused, nothing is changed but what it reports: the count of pg_run (with PG_SHAPE), and the place of pg_check,
- *   pg_report, pg_report_parcel, pg_add_report and pg_add_parcel. The last two also count the refused parcel in totals[0].
+ *   pg_write_parcel_placed, pg_report, pg_report_parcel, pg_add_report and pg_add_parcel. The last two also count the refused
+ *   parcel in totals[0].
  * - Calls keep nothing between them and may run at the same time on different places.
  *
  * A state is PG_STATE_WORDS words: r0 to r31, then the pc. Only those of the place are read or written.
  * Memory is n words of code and, directly after them, D words of data; memory_len is n + D.
- * Edges are pairs of numbers: a jump's address, then a target.
+ * Edges are pairs of numbers: a jump's address, then a target. They must rise by jump address, then by target, without
+ * repeats.
  * Figures are PG_FIGURES numbers and totals PG_TOTALS numbers, as pg_report and pg_add_report say.
  * A technique is PG_PLAIN, or PG_MEMORY_GUARDS (any number but 0 means that one). */
 #ifndef POST_GUARD_H
@@ -66,7 +68,8 @@ extern "C" {
 
 /* Refusals: why a call is turned away. 1 to 4 come from the calls that read a parcel (pg_read_parcel, pg_report_parcel and
  * pg_add_parcel), 7 to 15 from those that check a program (pg_check, pg_report, pg_add_report, pg_report_parcel and
- * pg_add_parcel). */
+ * pg_add_parcel), 18 from these, which test it after 8 and before 9, and from those that write a parcel (pg_write_parcel and
+ * pg_write_parcel_placed). */
 #define PG_COUNT_MISSING 1       /* fewer than four bytes are left for a count */
 #define PG_COUNT_LIMIT 2         /* a count breaks its section's limits */
 #define PG_ITEMS_MISSING 3       /* the bytes for a section's items are not all there */
@@ -84,6 +87,7 @@ extern "C" {
 #define PG_BRANCH_TARGET 15      /* this bgt or jd leads into a guard or out of code */
 #define PG_NOT_DATA 16           /* a bus write names an address outside data */
 #define PG_NOT_REGISTER 17       /* a bus write names a register outside r3 to r31 */
+#define PG_EDGE_NOT_RISING 18    /* this edge is not above the one before it, by jump address, then by target */
 
 /* What else became of a parcel that was to be added to totals. pg_add_report and pg_add_parcel answer them. */
 #define PG_WITHOUT_JUMPS 256 /* accepted, but without jumps: passed over */
@@ -131,8 +135,9 @@ uint32_t pg_write_register(uint64_t *state, size_t state_len, uint64_t reg, uint
 
 /* Checks a program: its code, its claimed edges and its data size.
  * Answers PG_OK where it is accepted; PG_PLACE_TOO_SHORT where place_len is below 2 (tested first, nothing is changed); or 6
- * to 15, the first rule that is broken. place[0] is then 0 for no place, 1 for an edge, 2 for an address, and place[1] the
- * edge, counted from 0, or the address; both are 0 where there is no place, and where the program is accepted. */
+ * to 15 or 18, the first rule that is broken, in the sequence 6, 7, 8, 18, 9 to 15. place[0] is then 0 for no place, 1 for an
+ * edge, 2 for an address, and place[1] the edge, counted from 0, or the address; both are 0 where there is no place, and where
+ * the program is accepted. */
 uint32_t pg_check(uint8_t technique, const uint64_t *memory, size_t memory_len, size_t n, const uint16_t *edges,
                   size_t edges_len, uint64_t *place, size_t place_len);
 
@@ -143,21 +148,29 @@ uint32_t pg_read_parcel(const uint8_t *parcel, size_t parcel_len, uint64_t *memo
                         size_t edges_len, uint64_t *counts, size_t counts_len);
 
 /* Writes a program as a parcel.
- * Answers PG_OK, and puts the number of its bytes into count[0]; PG_SHAPE; or PG_PLACE_TOO_SHORT where parcel or count (0) is
- * too short. */
+ * Answers PG_OK, and puts the number of its bytes into count[0]; PG_SHAPE; then PG_EDGE_NOT_RISING; or PG_PLACE_TOO_SHORT
+ * where parcel or count (0) is too short, tested last. */
 uint32_t pg_write_parcel(const uint64_t *memory, size_t memory_len, size_t n, const uint16_t *edges, size_t edges_len,
                          uint8_t *parcel, size_t parcel_len, uint64_t *count, size_t count_len);
 
+/* The same, with the place of a refusal: place is put as by pg_check, and so PG_EDGE_NOT_RISING comes with 1 and the first
+ * edge that is not above the one before it, and every other answer with 0 and 0. Answers PG_PLACE_TOO_SHORT also where
+ * place_len is below 2, after the other tests as before; nothing is put into the place then. */
+uint32_t pg_write_parcel_placed(const uint64_t *memory, size_t memory_len, size_t n, const uint16_t *edges,
+                                size_t edges_len, uint8_t *parcel, size_t parcel_len, uint64_t *count, size_t count_len,
+                                uint64_t *place, size_t place_len);
+
 /* Checks a program and, where it is accepted, puts its figures: how tightly it is held.
  * Answers PG_OK where it is accepted; PG_PLACE_TOO_SHORT where figures_len is below PG_FIGURES or place_len below 2 (tested
- * first, nothing is changed); or 6 to 15, as pg_check answers, and the figures are unchanged. The place is put as by pg_check.
+ * first, nothing is changed); or 6 to 15 or 18, as pg_check answers, and the figures are unchanged. The place is put as by
+ * pg_check.
  *
  * figures[0] to figures[9]: the words of each kind, in the sequence label, add, addi, movi, bgt, jd, jmp, ld, st, illegal
  * (so figures[PG_JMP] is the number of jumps); they add up to n. figures[10]: the target sets, equal ones counted once.
  * figures[11]: the size of the largest, 0 without jumps. figures[12] and figures[13]: the freedom of the computed jumps,
- * figures[12] of figures[13]. The first is the distinct edges, the second is jumps times code words: the edges that there
- * could be if each jump could go to each code word. Without jumps the freedom is left out, and both are 0; with jumps
- * neither is. */
+ * figures[12] of figures[13]. The first is the edges, as listed, since none repeats; the second is jumps times code words: the
+ * edges that there could be if each jump could go to each code word. Without jumps the freedom is left out, and both are 0;
+ * with jumps neither is. */
 uint32_t pg_report(uint8_t technique, const uint64_t *memory, size_t memory_len, size_t n, const uint16_t *edges,
                    size_t edges_len, uint64_t *figures, size_t figures_len, uint64_t *place, size_t place_len);
 
@@ -172,7 +185,8 @@ uint32_t pg_report_parcel(uint8_t technique, const uint8_t *parcel, size_t parce
  * the earliest, where freedoms are equal. totals[4] and totals[5]: its distinct edges and its possible ones. totals[5] is 0
  * where there is none yet; totals[3] and totals[4] are then passed over, and all three are put back as 0.
  *
- * Answers PG_OK where it is counted; PG_WITHOUT_JUMPS where it is accepted but has no jumps; or 6 to 15, as pg_check answers.
+ * Answers PG_OK where it is counted; PG_WITHOUT_JUMPS where it is accepted but has no jumps; or 6 to 15 or 18, as pg_check
+ * answers.
  * totals[0] then goes up by one. Without jumps or refused, the parcel is passed over: it keeps its place, and nothing is added.
  * Answers PG_UNCHANGED, and the totals are as they were, where totals[0] is 65535 (whatever the further parcel is), where
  * totals[1] or totals[2] would pass 64 bits, or where the numbers are no totals: totals[0] or totals[3] above 65535, totals[4]

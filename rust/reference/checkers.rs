@@ -74,6 +74,11 @@ pub fn check(technique: Technique, memory: &[u64], n: usize, edges: &[u16]) -> A
             return at_edge(8, k);
         }
     }
+    for k in 1..pairs.len() {
+        if pairs[k] <= pairs[k - 1] {
+            return at_edge(18, k);
+        }
+    }
     let jumps: Vec<usize> = (0..n).filter(|&a| is_jump(ops[a])).collect();
     let mut sets: HashMap<usize, BTreeSet<usize>> = HashMap::new();
     for &(jump, target) in &pairs {
@@ -155,6 +160,9 @@ pub fn check_with_sets(technique: Technique, memory: &[u64], n: usize, edges: &[
     }
     if let Some(k) = edges.chunks_exact(2).position(|e| e[1] as usize >= n) {
         return at_edge(8, k);
+    }
+    if let Some(k) = edges.chunks_exact(2).zip(edges[2.min(edges.len())..].chunks_exact(2)).position(|(a, b)| a >= b) {
+        return at_edge(18, k + 1);
     }
     if let Some(a) = (0..n).find(|&a| is_jump(ops[a]) && !sets.contains_key(&(a as u16))) {
         return at_address(9, a);
@@ -243,6 +251,9 @@ pub fn check_flat(technique: Technique, memory: &[u64], n: usize, edges: &[u16])
         }
         let low = &mut lowest[e[0] as usize];
         *low = (*low).min(e[1]);
+    }
+    if let Some(k) = edges.windows(4).step_by(2).position(|e| (e[0], e[1]) >= (e[2], e[3])) {
+        return at_edge(18, k + 1);
     }
     for a in 0..n {
         if is_jump(ops[a]) && lowest[a] == NONE {

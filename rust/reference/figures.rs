@@ -75,9 +75,8 @@ fn row_flat(word: u64) -> usize {
 }
 
 /// The same with flat arrays of n numbers. An accepted program has a label with the set's ID at each target and nowhere else, so
-/// that labels tell how large a set is.
+/// that labels tell how large a set is, and none of its edges repeats.
 fn figures_flat(memory: &[u64], n: usize, edges: &[u16]) -> Figures {
-    const NONE: u16 = u16::MAX;
     let mut words = [0; 10];
     let mut size = vec![0u16; n];
     for &word in &memory[..n] {
@@ -87,16 +86,10 @@ fn figures_flat(memory: &[u64], n: usize, edges: &[u16]) -> Figures {
             size[word as usize] += 1;
         }
     }
-    let mut lowest = vec![NONE; n];
-    for e in edges.chunks_exact(2) {
-        let low = &mut lowest[e[0] as usize];
-        *low = (*low).min(e[1]);
-    }
     let sets = size.iter().filter(|&&count| count > 0).count();
     let largest = size.iter().copied().max().unwrap_or(0);
-    let distinct: u32 = lowest.iter().filter(|&&id| id != NONE).map(|&id| u32::from(size[id as usize])).sum();
     let jumps = u32::from(words[6]);
-    let freedom = if jumps == 0 { None } else { Some((distinct, jumps * n as u32)) };
+    let freedom = if jumps == 0 { None } else { Some((edges.len() as u32 / 2, jumps * n as u32)) };
     Figures { words, sets: sets as u16, largest, freedom }
 }
 

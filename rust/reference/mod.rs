@@ -244,15 +244,22 @@ pub fn read_parcel(parcel: &[u8], memory: &mut [u64], edges: &mut [u16]) -> Resu
     Ok((n, numbers / 2, d))
 }
 
-/// the number of bytes, or the number
+/// the number of bytes, or the number with its place
 #[inline(never)]
-pub fn write_parcel(memory: &[u64], n: usize, edges: &[u16], parcel: &mut [u8]) -> Result<usize, u32> {
+pub fn write_parcel(memory: &[u64], n: usize, edges: &[u16], parcel: &mut [u8]) -> Result<usize, checkers::Answer> {
     if !shaped(memory.len(), n) || edges.len() % 2 != 0 || edges.len() > 4096 {
-        return Err(6);
+        return Err((6, 0, 0));
+    }
+    let mut last = None;
+    for (k, edge) in edges.chunks_exact(2).enumerate() {
+        if last >= Some(edge) {
+            return Err((18, 1, k as u64));
+        }
+        last = Some(edge);
     }
     let size = 12 + memory.len() * 8 + edges.len() * 2;
     if parcel.len() < size {
-        return Err(5);
+        return Err((5, 0, 0));
     }
     fn words<'a>(to: &'a mut [u8], xs: &[u64]) -> &'a mut [u8] {
         let (count, to) = to.split_at_mut(4);

@@ -57,6 +57,19 @@ mod library {
             count: *mut u64,
             count_len: usize,
         ) -> u32;
+        pub fn pg_write_parcel_placed(
+            memory: *const u64,
+            memory_len: usize,
+            n: usize,
+            edges: *const u16,
+            edges_len: usize,
+            parcel: *mut u8,
+            parcel_len: usize,
+            count: *mut u64,
+            count_len: usize,
+            place: *mut u64,
+            place_len: usize,
+        ) -> u32;
         pub fn pg_report(
             technique: u8,
             memory: *const u64,
@@ -206,6 +219,32 @@ pub mod slices {
     }
 
     #[inline]
+    pub fn write_parcel_placed(
+        memory: &[u64],
+        n: usize,
+        edges: &[u16],
+        parcel: &mut [u8],
+        count: &mut [u64],
+        place: &mut [u64],
+    ) -> u32 {
+        unsafe {
+            library::pg_write_parcel_placed(
+                memory.as_ptr(),
+                memory.len(),
+                n,
+                edges.as_ptr(),
+                edges.len(),
+                parcel.as_mut_ptr(),
+                parcel.len(),
+                count.as_mut_ptr(),
+                count.len(),
+                place.as_mut_ptr(),
+                place.len(),
+            )
+        }
+    }
+
+    #[inline]
     pub fn report(
         technique: u8,
         memory: &[u64],
@@ -288,6 +327,7 @@ pub mod slices {
 
 pub use slices::{
     add_parcel, add_report, check, decode, encode, read_parcel, report, report_parcel, write_data, write_parcel,
+    write_parcel_placed,
 };
 
 /// A state as 33 words. `State` is `repr(C)`: 32 registers and then the pc, with nothing between.

@@ -149,17 +149,18 @@ pub enum Refusal {
     BranchTarget = 15,
     NotData = 16,
     NotRegister = 17,
+    EdgeNotRising = 18,
 }
 
 impl Refusal {
-    /// The number of docs/REFERENCE.md, 1 to 17.
+    /// The number of docs/REFERENCE.md, 1 to 18.
     #[inline]
     pub fn number(self) -> u32 {
         self as u32
     }
 
     /// Every refusal, in the sequence of the numbers.
-    pub const ALL: [Refusal; 17] = [
+    pub const ALL: [Refusal; 18] = [
         Refusal::CountMissing,
         Refusal::CountLimit,
         Refusal::ItemsMissing,
@@ -177,9 +178,10 @@ impl Refusal {
         Refusal::BranchTarget,
         Refusal::NotData,
         Refusal::NotRegister,
+        Refusal::EdgeNotRising,
     ];
 
-    /// The refusal of a number that the library answers: 1 to 17.
+    /// The refusal of a number that the library answers: 1 to 18.
     #[inline]
     fn of(number: u32) -> Refusal {
         Refusal::ALL[(number as usize).clamp(1, Refusal::ALL.len()) - 1]
@@ -206,6 +208,7 @@ impl fmt::Display for Refusal {
             Refusal::BranchTarget => "a bgt or jd leads into a guard or out of code",
             Refusal::NotData => "a bus write names an address outside data",
             Refusal::NotRegister => "a bus write names a register outside r3 to r31",
+            Refusal::EdgeNotRising => "an edge is not above the one before it",
         };
         write!(f, "{} ({})", words, self.number())
     }
@@ -362,7 +365,7 @@ impl fmt::Display for Verdict {
     }
 }
 
-/// Why a program has no figures: the first rule that is broken, and its first faulty place.
+/// Why a program has no figures, or no parcel: the first rule that is broken, and its first faulty place.
 #[derive(Clone, Copy, PartialEq, Eq, Hash, Debug)]
 pub struct Fault {
     pub refusal: Refusal,
@@ -397,7 +400,7 @@ impl fmt::Display for Fault {
 impl std::error::Error for Fault {}
 
 /// Checks n words of code, with the data size that the memory's length gives, against the claimed edges: pairs of a jump's
-/// address and a target.
+/// address and a target, which must rise by jump address, then by target, without repeats ([`Program::sort_edges`]).
 ///
 /// ```
 /// use post_guard::{check, Place, Refusal, Technique, Verdict};
@@ -437,13 +440,34 @@ pub fn read_parcel(parcel: &[u8], memory: &mut [u64], edges: &mut [u16]) -> Resu
     Ok(Counts { code_words, edges, data_words })
 }
 
-/// Writes a program as a parcel, and gives the number of its bytes. Nothing past them is touched, and a refusal changes
-/// nothing.
+/// Writes a program as a parcel, and gives the number of its bytes. The edges must rise by jump address, then by target, without
+/// repeats. Nothing past the bytes is touched, and a refusal changes nothing.
 #[inline]
 pub fn write_parcel(memory: &[u64], n: usize, edges: &[u16], parcel: &mut [u8]) -> Result<usize, Refusal> {
     let mut count = [0u64; 1];
     done(calls::write_parcel(memory, n, edges, parcel, &mut count))?;
     Ok(count[0] as usize)
+}
+
+/// The same, and a refusal says at which edge: the first that is not above the one before it.
+///
+/// ```
+/// use post_guard::{write_parcel, write_parcel_placed, Place, Refusal};
+/// let mut parcel = [0; 100];
+/// assert_eq!(write_parcel_placed(&[7], 1, &[5, 9, 6, 8], &mut parcel), Ok(28));
+///
+/// let fault = write_parcel_placed(&[7], 1, &[6, 8, 5, 9], &mut parcel).unwrap_err();
+/// assert_eq!((fault.refusal, fault.place), (Refusal::EdgeNotRising, Some(Place::Edge(1))));
+/// assert_eq!(fault.to_string(), "refused 18 at 1");
+/// assert_eq!(write_parcel(&[7], 1, &[6, 8, 5, 9], &mut parcel), Err(Refusal::EdgeNotRising));
+/// ```
+#[inline]
+pub fn write_parcel_placed(memory: &[u64], n: usize, edges: &[u16], parcel: &mut [u8]) -> Result<usize, Fault> {
+    let (mut count, mut place) = ([0u64; 1], [0u64; 2]);
+    match calls::write_parcel_placed(memory, n, edges, parcel, &mut count, &mut place) {
+        0 => Ok(count[0] as usize),
+        number => Err(Fault::of(number, place)),
+    }
 }
 
 /// A program with its claim: code with the data after it, and the edge numbers.
@@ -452,12 +476,13 @@ pub struct Program {
     pub memory: Vec<u64>,
     /// n: how many words of the memory are code.
     pub code_words: usize,
-    /// A jump's address, then a target, for each edge.
+    /// A jump's address, then a target, for each edge. A program is accepted, and written as a parcel, where the edges rise by
+    /// jump address, then by target, without repeats.
     pub edges: Vec<u16>,
 }
 
 impl Program {
-    /// The program that a parcel holds.
+    /// The program that a parcel holds, with its edges as the parcel lists them.
     pub fn from_parcel(parcel: &[u8]) -> Result<Program, Refusal> {
         let mut memory = vec![0; 4096];
         let mut edges = vec![0; 4096];
@@ -473,6 +498,37 @@ impl Program {
         let size = write_parcel(&self.memory, self.code_words, &self.edges, &mut parcel)?;
         parcel.truncate(size);
         Ok(parcel)
+    }
+
+    /// The same, and a refusal says at which edge.
+    pub fn to_parcel_placed(&self) -> Result<Vec<u8>, Fault> {
+        let mut parcel = vec![0; 40_972];
+        let size = write_parcel_placed(&self.memory, self.code_words, &self.edges, &mut parcel)?;
+        parcel.truncate(size);
+        Ok(parcel)
+    }
+
+    /// Puts the edges into the sequence that check and writer ask for, and takes out repeats: the graph stays the same. A number
+    /// at the end that is no pair stays there.
+    ///
+    /// ```
+    /// use post_guard::{Place, Program, Refusal};
+    /// let mut program = Program { memory: vec![7], code_words: 1, edges: vec![6, 9, 5, 9, 6, 8, 5, 9] };
+    /// let fault = program.to_parcel_placed().unwrap_err();
+    /// assert_eq!((fault.refusal, fault.place), (Refusal::EdgeNotRising, Some(Place::Edge(1))));
+    ///
+    /// program.sort_edges();
+    /// assert_eq!(program.edges, [5, 9, 6, 8, 6, 9]);
+    /// assert_eq!(program.to_parcel_placed().unwrap().len(), 12 + 8 + 3 * 4);
+    /// ```
+    pub fn sort_edges(&mut self) {
+        let pairs = self.edges.chunks_exact(2);
+        let odd = pairs.remainder().to_vec();
+        let mut edges: Vec<[u16; 2]> = pairs.map(|edge| [edge[0], edge[1]]).collect();
+        edges.sort_unstable();
+        edges.dedup();
+        self.edges = edges.concat();
+        self.edges.extend(odd);
     }
 
     /// The verdict on the program.
@@ -542,7 +598,7 @@ impl fmt::Display for Kind {
 /// tighter the program is held.
 #[derive(Clone, Copy, PartialEq, Eq, Hash, Debug)]
 pub struct Freedom {
-    /// The distinct edges: one that is listed again counts once.
+    /// The distinct edges, which are the edges as listed.
     pub edges: u32,
     /// Jumps times code words.
     pub possible: u32,

@@ -4,7 +4,7 @@
 mod reference;
 mod common;
 
-use common::{accepted, damage, number_of, Program, Random};
+use common::{accepted, damage, number_of, rising_edges, sort_edges, Program, Random};
 use post_guard::raw;
 use reference::{checkers, Technique, TECHNIQUES};
 
@@ -30,7 +30,7 @@ fn told(p: &Program) -> String {
 
 fn many(technique: Technique, seed: u64) {
     let mut r = Random::new(seed);
-    let mut seen = [0usize; 16];
+    let mut seen = [0usize; 19];
     for round in 0..110_000usize {
         let n = if r.chance(60) { 1 + r.below(300) } else { 1 + r.below(48) };
         let d = r.below(6);
@@ -41,7 +41,7 @@ fn many(technique: Technique, seed: u64) {
         seen[compare(technique, number_of(technique), &p) as usize] += 1;
     }
     println!("{technique:?}: how often each number was given: {seen:?}");
-    for number in (6..16).chain([0]) {
+    for number in (6..16).chain([0, 18]) {
         let never = technique == Technique::Plain && number == 13;
         assert!(never == (seen[number] == 0), "number {number} was given {} times", seen[number]);
     }
@@ -70,6 +70,12 @@ fn garbage(r: &mut Random, n: usize, d: usize) -> Program {
         for _ in 0..r.below(12) {
             edges.extend([r.pick(&jumps), r.below(n) as u16]);
         }
+    }
+    if !r.chance(4) {
+        let mut pairs: Vec<&[u16]> = edges.chunks(2).collect();
+        pairs.sort();
+        pairs.dedup();
+        edges = pairs.concat();
     }
     Program { memory, n, edges }
 }
@@ -124,6 +130,65 @@ fn branch_targets_at_the_ends() {
     }
 }
 
+/// Edges in every sequence of three, with and without a repeat: accepted in the rising one alone, and the place is the first edge that
+/// is not above the one before it. 7 and 8 come before, 9 after.
+#[test]
+fn sequences_of_edges() {
+    use reference::{encode, Op};
+    let jump = |id: u32, halt: u32| {
+        [Op::Addi(0, 5, 0), Op::Ld(1, 0, 0), Op::Movi(2, id), Op::Bgt(1, 2, halt), Op::Bgt(2, 1, halt), Op::Jmp(0)]
+    };
+    // jumps at 5 and 11; labels of one set at 12 and 13, which both of them have
+    let code = [&jump(12, 14)[..], &jump(12, 14), &[Op::Label(12), Op::Label(12), Op::Illegal]].concat();
+    let memory: Vec<u64> = code.into_iter().map(encode).collect();
+    let all = [[5u16, 12], [5, 13], [11, 12], [11, 13], [4, 12], [5, 15]];
+    let mut seen = [0usize; 19];
+    for choice in 0..6usize.pow(5) {
+        let picked: Vec<[u16; 2]> = (0..5).map(|i| all[choice / 6usize.pow(i) % 6]).collect();
+        for count in 0..=5 {
+            let p = Program { memory: memory.clone(), n: 15, edges: picked[..count].concat() };
+            let falls = (1..count).find(|&k| picked[k] <= picked[k - 1]);
+            let answer = compare(Technique::Plain, 0, &p);
+            seen[answer as usize] += 1;
+            let sound = picked[..count].iter().all(|edge| all[..4].contains(edge));
+            assert_eq!(answer == 18, sound && falls.is_some(), "{:?}", p.edges);
+            assert_eq!(answer == 0, picked[..count] == all[..4], "{:?}", p.edges);
+        }
+    }
+    println!("how often each number was given: {seen:?}");
+    assert!([0, 7, 8, 9, 10, 18].iter().all(|&number| seen[number] > 0), "{seen:?}");
+}
+
+/// As many edges as there may be: the place of one that falls or repeats, from the first to the last.
+#[test]
+fn every_place_of_a_fall() {
+    let mut r = Random::new(26);
+    let jump = reference::encode(reference::Op::Jmp(0));
+    for pairs in [1usize, 2, 3, 64, 2047, 2048] {
+        // every word is a jmp, so that 7 and 8 find nothing
+        let memory = vec![jump; 2048];
+        let mut edges = rising_edges(&mut r, pairs);
+        edges.iter_mut().for_each(|number| *number %= 2048);
+        sort_edges(&mut edges);
+        let mut distinct: Vec<[u16; 2]> = edges.chunks(2).map(|e| [e[0], e[1]]).collect();
+        distinct.dedup();
+        let rising = Program { memory, n: 2048, edges: distinct.concat() };
+        assert!(![7, 8, 18].contains(&compare(Technique::Plain, 0, &rising)));
+        for k in 1..distinct.len() {
+            let mut p = rising.clone();
+            let falls = r.chance(2);
+            p.edges[k * 2] = if falls { 0 } else { p.edges[k * 2 - 2] };
+            p.edges[k * 2 + 1] = if falls { 0 } else { p.edges[k * 2 - 1] };
+            let mut place = [0; 2];
+            assert_eq!(raw::check(0, &p.memory, p.n, &p.edges, &mut place), 18);
+            assert_eq!(place, [1, k as u64]);
+            if k < 40 || k + 40 > distinct.len() {
+                compare(Technique::Plain, 0, &p);
+            }
+        }
+    }
+}
+
 #[test]
 fn shapes() {
     let mut r = Random::new(24);
@@ -131,7 +196,10 @@ fn shapes() {
         for data in [0usize, 1, 2048, 2049] {
             for numbers in [0usize, 1, 2, 3, 4095, 4096, 4097, 4098] {
                 let memory = vec![u64::MAX; code + data];
-                let edges: Vec<u16> = (0..numbers).map(|_| r.word() as u16).collect();
+                let mut edges: Vec<u16> = (0..numbers).map(|_| r.word() as u16).collect();
+                if r.chance(2) {
+                    sort_edges(&mut edges);
+                }
                 for n in [0, 1, code, code + 1, 2048, 2049, code + data, code + data + 1, usize::MAX] {
                     for technique in TECHNIQUES {
                         compare(technique, number_of(technique), &Program { memory: memory.clone(), n, edges: edges.clone() });

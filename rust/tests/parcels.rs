@@ -3,7 +3,7 @@
 mod reference;
 mod common;
 
-use common::{padded, Random};
+use common::{padded, rising_edges, sort_edges, Random};
 use post_guard::raw;
 
 fn compare_read(r: &mut Random, parcel: &[u8], memory_len: usize, edges_len: usize, counts_len: usize) -> u32 {
@@ -38,21 +38,40 @@ fn compare_read(r: &mut Random, parcel: &[u8], memory_len: usize, edges_len: usi
 }
 
 fn compare_write(r: &mut Random, memory: &[u64], n: usize, edges: &[u16], parcel_len: usize, count_len: usize) -> u32 {
-    let mut parcel = padded(0, parcel_len, 3, || r.word() as u8);
-    let mut count = [7u64, 8, 9];
-    let (mut expected_parcel, mut expected_count) = (parcel.clone(), count);
-    let room = if count_len < 1 { 0 } else { parcel_len };
-    let expected = match reference::write_parcel(memory, n, edges, &mut expected_parcel[..room]) {
-        Ok(size) => {
-            expected_count[0] = size as u64;
-            0
+    let parcel = padded(0, parcel_len, 3, || r.word() as u8);
+    let count = [7u64, 8, 9];
+    // what is left, and the answer, where the place of a refusal has so many numbers, or is not asked for
+    let expected = |place_len: Option<usize>| {
+        let (mut parcel, mut count, mut place) = (parcel.clone(), count, [4u64, 5, 6]);
+        let short = count_len < 1 || place_len.is_some_and(|len| len < 2);
+        let (number, kind, at) = match reference::write_parcel(memory, n, edges, &mut parcel[..if short { 0 } else { parcel_len }]) {
+            Ok(size) => {
+                count[0] = size as u64;
+                (0, 0, 0)
+            }
+            Err(answer) => answer,
+        };
+        if place_len.is_some_and(|len| len >= 2) {
+            place[..2].copy_from_slice(&[kind, at]);
         }
-        Err(number) => number,
+        (number, parcel, count, place)
     };
-    let answer = raw::write_parcel(memory, n, edges, &mut parcel[..parcel_len], &mut count[..count_len]);
-    assert_eq!(answer, expected, "{} words, n {n}, {} numbers, {parcel_len} bytes", memory.len(), edges.len());
-    assert!(parcel == expected_parcel, "parcel");
-    assert_eq!(count, expected_count);
+    let told = || format!("{} words, n {n}, {} numbers, {parcel_len} bytes", memory.len(), edges.len());
+    let (mut left, mut left_count) = (parcel.clone(), count);
+    let answer = raw::write_parcel(memory, n, edges, &mut left[..parcel_len], &mut left_count[..count_len]);
+    assert!((answer, left, left_count, [4, 5, 6]) == expected(None), "{answer}, {}", told());
+    for place_len in [r.below(2), 2 + r.below(2)] {
+        let (mut left, mut left_count, mut place) = (parcel.clone(), count, [4u64, 5, 6]);
+        let answer = raw::write_parcel_placed(
+            memory,
+            n,
+            edges,
+            &mut left[..parcel_len],
+            &mut left_count[..count_len],
+            &mut place[..place_len],
+        );
+        assert!((answer, left, left_count, place) == expected(Some(place_len)), "{answer}, {place_len}, {}", told());
+    }
     answer
 }
 
@@ -133,12 +152,14 @@ fn limits() {
 #[test]
 fn parcels_are_written_as_the_reference_says() {
     let mut r = Random::new(34);
-    let mut seen = [0usize; 7];
+    let mut seen = [0usize; 19];
     for _ in 0..110_000 {
-        let (code, numbers, data) = (1 + r.below(20), r.below(24), r.below(12));
-        let numbers = if r.chance(8) { numbers } else { numbers / 2 * 2 };
+        let (code, data) = (1 + r.below(20), r.below(12));
         let memory: Vec<u64> = (0..code + data).map(|_| r.word()).collect();
-        let edges: Vec<u16> = (0..numbers).map(|_| r.word() as u16).collect();
+        let pairs = r.below(12);
+        let mut edges = rising_edges(&mut r, pairs);
+        damage_sequence(&mut r, &mut edges);
+        let numbers = edges.len();
         let n = if r.chance(10) { r.pick(&[0, code + data + 1, usize::MAX, 2049]) } else { code };
         let size = 12 + (code + data) * 8 + numbers * 2;
         let parcel_len = if r.chance(6) { r.below(size) } else { size + r.below(4) };
@@ -146,7 +167,31 @@ fn parcels_are_written_as_the_reference_says() {
         seen[compare_write(&mut r, &memory, n, &edges, parcel_len, count_len) as usize] += 1;
     }
     println!("how often each number was given: {seen:?}");
-    assert!(seen[0] > 0 && seen[5] > 0 && seen[6] > 0);
+    assert!([0, 5, 6, 18].iter().all(|&number| seen[number] > 1000), "{seen:?}");
+}
+
+/// Three times in four the edges stay as they are; else two change places, one is listed again, one number changes, or one goes.
+fn damage_sequence(r: &mut Random, edges: &mut Vec<u16>) {
+    if edges.is_empty() || !r.chance(4) {
+        return;
+    }
+    let pairs = edges.len() / 2;
+    let (one, two) = (r.below(pairs) * 2, r.below(pairs) * 2);
+    match r.below(5) {
+        0 => {
+            edges.swap(one, two);
+            edges.swap(one + 1, two + 1);
+        }
+        1 => edges.extend_from_within(one..one + 2),
+        2 => {
+            edges.extend_from_within(one..one + 2);
+            sort_edges(edges);
+        }
+        3 => edges[one + r.below(2)] = r.below(4) as u16,
+        _ => {
+            edges.pop();
+        }
+    }
 }
 
 #[test]
@@ -156,7 +201,11 @@ fn writing_at_the_limits() {
         for data in [0usize, 1, 2048, 2049] {
             for numbers in [0usize, 1, 2, 4095, 4096, 4097, 4098] {
                 let memory: Vec<u64> = (0..code + data).map(|_| r.word()).collect();
-                let edges: Vec<u16> = (0..numbers).map(|_| r.word() as u16).collect();
+                let mut edges = rising_edges(&mut r, numbers / 2);
+                edges.extend((edges.len()..numbers).map(|_| 7));
+                if r.chance(3) {
+                    edges.reverse();
+                }
                 let size = 12 + memory.len() * 8 + numbers * 2;
                 for parcel_len in [0, size - 1, size, size + 1] {
                     compare_write(&mut r, &memory, code, &edges, parcel_len, 1);
@@ -175,11 +224,47 @@ fn what_is_written_is_read_back() {
         let program = post_guard::Program {
             memory: (0..code + data).map(|_| r.word()).collect(),
             code_words: code,
-            edges: (0..pairs * 2).map(|_| r.word() as u16).collect(),
+            edges: rising_edges(&mut r, pairs),
         };
         let parcel = program.to_parcel().unwrap();
+        assert_eq!(program.to_parcel_placed().as_ref(), Ok(&parcel));
         let back = post_guard::Program::from_parcel(&parcel).unwrap();
         assert_eq!(back, program);
         assert_eq!(back.to_parcel().unwrap(), parcel);
     }
+}
+
+/// What is read is written back exactly where its edges rise; elsewhere it is 18, at the first edge that does not, until the edges are
+/// sorted.
+#[test]
+fn what_is_read_is_written_back_where_the_edges_rise() {
+    let mut r = Random::new(37);
+    let mut falls = 0;
+    for _ in 0..20_000 {
+        let (code, pairs, data) = (1 + r.below(10), r.below(8), r.below(10));
+        let mut edges = rising_edges(&mut r, pairs);
+        damage_sequence(&mut r, &mut edges);
+        edges.truncate(edges.len() / 2 * 2);
+        let memory = (0..code + data).map(|_| r.word()).collect();
+        let parcel = common::parcel_of(&common::Program { memory, n: code, edges: edges.clone() }).unwrap();
+        let mut program = post_guard::Program::from_parcel(&parcel).unwrap();
+        assert_eq!(program.edges, edges);
+        let listed: Vec<&[u16]> = edges.chunks(2).collect();
+        match (1..listed.len()).find(|&k| listed[k] <= listed[k - 1]) {
+            None => assert_eq!(program.to_parcel_placed(), Ok(parcel)),
+            Some(k) => {
+                falls += 1;
+                let place = Some(post_guard::Place::Edge(k));
+                let fault = post_guard::Fault { refusal: post_guard::Refusal::EdgeNotRising, place };
+                assert_eq!(program.to_parcel_placed(), Err(fault));
+                assert_eq!(program.to_parcel(), Err(post_guard::Refusal::EdgeNotRising));
+                program.sort_edges();
+                let sorted: std::collections::BTreeSet<&[u16]> = listed.into_iter().collect();
+                assert_eq!(program.edges, sorted.into_iter().collect::<Vec<_>>().concat());
+                let back = post_guard::Program::from_parcel(&program.to_parcel().unwrap()).unwrap();
+                assert_eq!(back, program);
+            }
+        }
+    }
+    assert!(falls > 1000, "{falls}");
 }

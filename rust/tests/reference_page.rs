@@ -102,6 +102,8 @@ fn examples_get_the_verdicts_worked_out_by_hand() {
         ("clipping-skipped", address(LabelCondition, 9), address(LabelCondition, 9)),
         // with memory guards the st at 25 has no guard
         ("day-and-night", Verdict::Accepted, address(StoreUnguarded, 25)),
+        // edge 1, from 11, comes after edge 0, from 22; 18 comes before 13
+        ("edges-turned", edge(EdgeNotRising, 1), edge(EdgeNotRising, 1)),
         // the target 9 is n, the first address of data
         ("label-in-data", edge(TargetOutsideCode, 0), edge(TargetOutsideCode, 0)),
         // plain asks for addi r0, rs, 0 five words before the jmp at 15, where a bgt is

@@ -126,7 +126,7 @@ struct Met {
     counted: usize,
     without_jumps: usize,
     unchanged: usize,
-    refused: [usize; 16],
+    refused: [usize; 19],
 }
 
 impl Met {
@@ -181,7 +181,7 @@ fn some_item(r: &mut Random) -> Item {
     let technique = TECHNIQUES[r.below(2)];
     let (n, d) = (1 + r.below(48), r.below(4));
     let mut p = if r.chance(8) { without_jumps(r, technique, n, d) } else { accepted(r, technique, n, d) };
-    if r.chance(4) {
+    if r.chance(16) {
         repeat_edges(r, &mut p);
     }
     for _ in 0..r.below(5).saturating_sub(2) {
@@ -231,7 +231,7 @@ fn lists_of_programs_and_parcels() {
     }
     println!("{met:?}");
     assert!(met.counted > 10_000 && met.without_jumps > 1_000 && met.unchanged == 0, "{met:?}");
-    for number in (1..5).chain(6..16) {
+    for number in (1..5).chain(6..16).chain([18]) {
         assert!(met.refused[number] > 0, "number {number} was not given: {met:?}");
     }
 }

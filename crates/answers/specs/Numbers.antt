@@ -1,4 +1,4 @@
--- Document 01's number for each refusal.
+-- Document 01's number for each refusal, and document 02's.
 use Prim.Native.Nat.{ℕ}
 use Rattle.answers.specs.declared.Refusal.{Refusal}
 
@@ -20,3 +20,4 @@ refusalNumber Refusal.JumpUnguarded = 14
 refusalNumber Refusal.BranchTarget = 15
 refusalNumber Refusal.NotData = 16
 refusalNumber Refusal.NotRegister = 17
+refusalNumber Refusal.EdgeNotRising = 18

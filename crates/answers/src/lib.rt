@@ -1,5 +1,5 @@
-// The numbers that calls give (document 01, "Numbers given, in checking order"), by name, and the test behind number 6,
-// which every call on memory and graph makes first.
+// The numbers that calls give (document 01, "Numbers given, in checking order"; 18 is K3's, of document 02), by name, and the test
+// behind number 6, which every call on memory and graph makes first.
 ghost use mathlib.Core.Path.{_≡_};
 ghost use Rattle.answers.specs.Numbers.{refusalNumber};
 ghost use Rattle.answers.specs.Shape.{memoryShaped, edgesShaped, callShaped};
@@ -22,6 +22,7 @@ pub enum Refusal {
     BranchTarget,
     NotData,
     NotRegister,
+    EdgeNotRising,
 }
 
 // Where a fault is: an edge, counted from 0, an address, or no place at all.
@@ -58,6 +59,7 @@ pub fn number(refusal: Refusal) -> u8
         Refusal::BranchTarget => 15,
         Refusal::NotData => 16,
         Refusal::NotRegister => 17,
+        Refusal::EdgeNotRising => 18,
     }
 }
 

@@ -1,7 +1,7 @@
--- The calls on parcels (document 01, "Parcel").
+-- The calls on parcels (document 01, "Parcel"; document 02, K3).
 use Prim.Native.Nat.{ℕ}
 use mathlib.Core.Path.{_≡_}
-use mathlib.Core.Bool.{cond}
+use mathlib.Core.Bool.{Bool, cond, _||_}
 use mathlib.Core.List.{List, [], _∷_}
 use lib.ListN.{length, take, drop}
 use Rattle.answers.specs.declared.Refusal.{Refusal}
@@ -12,6 +12,7 @@ use Rattle.parcel.specs.declared.Read.{Read}
 use Rattle.parcel.specs.declared.Written.{Written}
 use Rattle.lists.specs.Places.{shorter, putOver}
 use Rattle.parcel.specs.Parcel.{readOf, countsOf, roomFor, memoryIn, edgesIn, afterRead, parcelOf, writtenOf, afterWrite}
+use Rattle.capi.specs.Checks.{placeAfter}
 
 -- 0 where the parcel is read
 abbrev pub readNumber : Read → ℕ
@@ -41,26 +42,46 @@ pub record ReadCall (parcel memory edges counts : List ℕ) (r : ℕ) (memory′
   pub counts-after : counts′ ≡ countsAfter (readCall parcel memory edges counts) counts
 
 -- 0 where the parcel is written
-abbrev pub writtenNumber : Written → ℕ
-writtenNumber (Written.Bytes size) = 0
-writtenNumber (Written.Refused why place) = refusalNumber why
+abbrev pub writtenParcelNumber : Written → ℕ
+writtenParcelNumber (Written.Bytes size) = 0
+writtenParcelNumber (Written.Refused why place) = refusalNumber why
+
+abbrev pub writtenPlace : Written → Place
+writtenPlace (Written.Bytes size) = Place.Nowhere
+writtenPlace (Written.Refused why place) = place
 
 abbrev pub bytesIn : List ℕ → ℕ → List ℕ → List ℕ
 bytesIn memory n edges = parcelOf 2 (take n memory) edges (drop n memory)
 
--- the writing, where the place for the count is a lent place as the parcel's is: 6, and then 5
-abbrev pub writeCall : List ℕ → ℕ → List ℕ → List ℕ → List ℕ → Written
-writeCall memory n edges parcel count =
-    cond (shorter count 1)
-    (Written.Refused (cond (callShaped (length memory) n (length edges)) Refusal.PlaceTooShort Refusal.Shape) Place.Nowhere)
-    (writtenOf (callShaped (length memory) n (length edges)) (length parcel) (bytesIn memory n edges))
+-- the writing, where any of the places lent is too short, or none: 6, 18, and then 5
+abbrev pub writeCall : List ℕ → ℕ → List ℕ → Bool → Written
+writeCall memory n edges short = writtenOf (callShaped (length memory) n (length edges)) edges short (bytesIn memory n edges)
+
+-- the place for the count is a lent place as the parcel's is,
+abbrev pub writeShort : List ℕ → ℕ → List ℕ → List ℕ → List ℕ → Bool
+writeShort memory n edges parcel count = shorter count 1 || shorter parcel (length (bytesIn memory n edges))
+
+-- and so is the one for the place of a refusal
+abbrev pub writePlacedShort : List ℕ → ℕ → List ℕ → List ℕ → List ℕ → List ℕ → Bool
+writePlacedShort memory n edges parcel count place = shorter place 2 || writeShort memory n edges parcel count
 
 abbrev pub countAfter : Written → List ℕ → List ℕ
 countAfter (Written.Bytes size) count = putOver (size ∷ []) count
 countAfter (Written.Refused why place) count = count
 
+-- what a writing that answers `written` leaves in the parcel's place and in the count's
+pub record WriteLeaves (written : Written) (memory : List ℕ) (n : ℕ) (edges parcel count parcel′ count′ : List ℕ) : Type 0 where
+  pub parcel-after : parcel′ ≡ afterWrite written (bytesIn memory n edges) parcel
+  pub count-after : count′ ≡ countAfter written count
+
 -- the contract of `pg_write_parcel`: its answer r, and the two places that it leaves
 pub record WriteCall (memory : List ℕ) (n : ℕ) (edges parcel count : List ℕ) (r : ℕ) (parcel′ count′ : List ℕ) : Type 0 where
-  pub answer : r ≡ writtenNumber (writeCall memory n edges parcel count)
-  pub parcel-after : parcel′ ≡ afterWrite (writeCall memory n edges parcel count) (bytesIn memory n edges) parcel
-  pub count-after : count′ ≡ countAfter (writeCall memory n edges parcel count) count
+  pub answer : r ≡ writtenParcelNumber (writeCall memory n edges (writeShort memory n edges parcel count))
+  pub leaves : WriteLeaves (writeCall memory n edges (writeShort memory n edges parcel count)) memory n edges parcel count parcel′ count′
+
+-- the contract of `pg_write_parcel_placed`: its answer r, and the three places that it leaves. The place of the refusal is put where there
+-- is room for it.
+pub record WritePlacedCall (memory : List ℕ) (n : ℕ) (edges parcel count place : List ℕ) (r : ℕ) (parcel′ count′ place′ : List ℕ) : Type 0 where
+  pub answer : r ≡ writtenParcelNumber (writeCall memory n edges (writePlacedShort memory n edges parcel count place))
+  pub leaves : WriteLeaves (writeCall memory n edges (writePlacedShort memory n edges parcel count place)) memory n edges parcel count parcel′ count′
+  pub place-after : place′ ≡ placeAfter (writtenPlace (writeCall memory n edges (writePlacedShort memory n edges parcel count place))) place

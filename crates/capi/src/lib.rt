@@ -1,6 +1,6 @@
 // The calls for C and Rust: numbers and slices, a slice as its pointer and its length. `include/post_guard.h` declares them.
 ghost use mathlib.Core.Path.{_≡_};
-ghost use mathlib.Core.Bool.{cond};
+ghost use mathlib.Core.Bool.{true, cond};
 ghost use Prim.Native.Nat.{_≤_};
 ghost use lib.ListN.{length};
 ghost use mathlib.Core.List.{[], _∷_};
@@ -8,10 +8,10 @@ ghost use Rattle.machine.specs.Numbers.{endingNumber, writtenNumber};
 ghost use Rattle.lists.specs.Places.{shorter, putOver};
 ghost use Rattle.capi.specs.Words.{DecodeCall, encodeCall};
 ghost use Rattle.capi.specs.States.{techniqueOf, StepCall, RunCall, WriteDataCall, WriteRegisterCall};
-ghost use Rattle.capi.specs.Inside.{Ordered, RunNumber};
+ghost use Rattle.capi.specs.Inside.{Ordered, RunNumber, WriteCounted};
 ghost use Rattle.capi.specs.Checks.{placeAfter, VerdictPut, CheckCall};
 ghost use Rattle.parcel.specs.Parcel.{readOf, countsOf};
-ghost use Rattle.capi.specs.Parcels.{readNumber, noPlace, ReadCall, WriteCall};
+ghost use Rattle.capi.specs.Parcels.{readNumber, noPlace, ReadCall, writtenParcelNumber, writtenPlace, writeCall, WriteCall, WritePlacedCall};
 use answers::Place;
 use answers::Verdict;
 use isa::Technique;
@@ -145,18 +145,75 @@ pub extern "C" fn pg_write_parcel(
 ) -> u32
     ensures { λ r. ⌜ WriteCall (now (memory .entry)) n (now (edges .entry)) (now (parcel .entry)) (now (count .entry)) r (now (parcel .exit)) (now (count .exit)) ⌝ }
 {
-    if count.len() < 1 {
-        if answers::call_shaped(memory.len(), n, edges.len()) {
-            return 5;
-        }
-        return 6;
+    written_parcel_number(write_counted(memory, n, edges, parcel, count))
+}
+
+// The same, with the place of a refusal put down.
+#[no_mangle]
+pub extern "C" fn pg_write_parcel_placed(
+    memory: &[u64],
+    n: usize,
+    edges: &[u16],
+    parcel: &mut [u8],
+    count: &mut [u64],
+    place: &mut [u64],
+) -> u32
+    ensures { λ r. ⌜ WritePlacedCall (now (memory .entry)) n (now (edges .entry)) (now (parcel .entry)) (now (count .entry)) (now (place .entry)) r (now (parcel .exit)) (now (count .exit)) (now (place .exit)) ⌝ }
+{
+    if place.len() < 2 {
+        return written_parcel_number(write_nowhere(memory, n, edges));
     }
-    match parcel::write_parcel(memory, n, edges, parcel) {
+    let written = write_counted(memory, n, edges, parcel, count);
+    put_place(place, written_place(written));
+    written_parcel_number(written)
+}
+
+// Writes, and puts down how many bytes were written.
+fn write_counted(
+    memory: &[u64],
+    n: usize,
+    edges: &[u16],
+    parcel: &mut [u8],
+    count: &mut [u64],
+) -> parcel::Written
+    ensures { λ r. ⌜ WriteCounted (now (memory .entry)) n (now (edges .entry)) (now (parcel .entry)) (now (count .entry)) r (now (parcel .exit)) (now (count .exit)) ⌝ }
+{
+    if count.len() < 1 {
+        return write_nowhere(memory, n, edges);
+    }
+    let written = parcel::write_parcel(memory, n, edges, parcel);
+    match written {
         parcel::Written::Bytes(size) => {
             count[0] = size as u64;
-            0
+            written
         }
+        parcel::Written::Refused(_, _) => written,
+    }
+}
+
+// What the writer gives where a place is too short: 6 and 18 come before 5.
+fn write_nowhere(memory: &[u64], n: usize, edges: &[u16]) -> parcel::Written
+    ensures { λ r. ⌜ r ≡ writeCall (now (memory .entry)) n (now (edges .entry)) true ⌝ }
+{
+    let mut nothing = [0u8; 1];
+    parcel::write_parcel(memory, n, edges, &mut nothing)
+}
+
+fn written_parcel_number(written: parcel::Written) -> u32
+    ensures { λ r. ⌜ r ≡ writtenParcelNumber written ⌝ }
+{
+    match written {
+        parcel::Written::Bytes(_) => 0,
         parcel::Written::Refused(why, _) => wide8(answers::number(why)),
+    }
+}
+
+fn written_place(written: parcel::Written) -> Place
+    ensures { λ r. ⌜ r ≡ writtenPlace written ⌝ }
+{
+    match written {
+        parcel::Written::Bytes(_) => Place::Nowhere,
+        parcel::Written::Refused(_, at) => at,
     }
 }
 

@@ -17,6 +17,7 @@ use Rattle.isa.specs.declared.Technique.{Technique}
 use Rattle.isa.specs.Instructions.{instrAt, isIllegal, isJump, isStore, labelNumber, branchTarget}
 use Rattle.graph.specs.Claim.{edgeCount, jumpOf, targetOf, isDestination, idOf}
 use Rattle.graph.specs.Rules.{lacksEdge, isLabel, isLabelOf, labelWrong}
+use Rattle.rising.proofs.Rising.{clean-rising, rising-clean}
 use Rattle.guards.specs.declared.Slot.{Slot}
 use Rattle.guards.specs.Sequences.{jumpGuard, storeGuard, endsAt}
 use Rattle.guards.specs.Rules.{storeUnguarded, jumpUnguarded, insideEnding, targetWrongIfAny, branchWrong}
@@ -163,6 +164,7 @@ module _ (t : Technique) (memory : List ℕ) (n : ℕ) (edges : List ℕ) (ok : 
         shape = ok .shape;
         graph =
             record { edges-start-at-jumps = starts; edges-end-in-code = arrives; jumps-have-successors = leaves; sets-equal-or-apart = sets };
+        edges-rise = clean-rising edges (ok .edges-rise);
         instrumented =
             record {
               last-illegal = illegal-instr (instrAt memory (n - 1)) (ok .last-illegal);
@@ -263,6 +265,7 @@ module _ (t : Technique) (memory : List ℕ) (n : ℕ) (edges : List ℕ) (c : C
             rw (lt-leb n (jumpOf edges k) (s .0), s .1 .1);
         edges-end = λ k h.
             lt-leb n (targetOf edges k) (c .graph .edges-end-in-code (jumpOf edges k) (targetOf edges k) (place-listed edges k h));
+        edges-rise = rising-clean edges (c .edges-rise);
         jumps-leave = no-lack;
         sets-apart = λ i h. within-apart edges n i (λ j l. (within-meeting i j, within-meeting j i));
         last-illegal = ap isIllegal (c .instrumented .last-illegal);

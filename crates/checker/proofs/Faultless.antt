@@ -15,6 +15,7 @@ use Rattle.answers.specs.Shape.{callShaped}
 use Rattle.isa.specs.declared.Technique.{Technique}
 use Rattle.isa.specs.Instructions.{instrAt, isIllegal}
 use Rattle.graph.specs.Claim.{edgeCount}
+use Rattle.rising.specs.Rising.{notRising}
 use Rattle.graph.specs.Rules.{startsAtNoJump, endsOutsideCode, lacksEdge, overlaps, labelWrong}
 use Rattle.guards.specs.Rules.{storeUnguarded, jumpUnguarded, branchWrong}
 use Rattle.checker.specs.Verdicts.{Rule, firstBroken, rulesOf, verdictOf}
@@ -50,6 +51,7 @@ pub record Faultless (t : Technique) (memory : List ℕ) (n : ℕ) (edges : List
   pub shape : callShaped (length memory) n (length edges) ≡ true
   pub edges-start : Clean (startsAtNoJump memory n edges) (edgeCount edges)
   pub edges-end : Clean (endsOutsideCode n edges) (edgeCount edges)
+  pub edges-rise : Clean (notRising edges) (edgeCount edges)
   pub jumps-leave : Clean (lacksEdge memory edges) n
   pub sets-apart : Clean (overlaps edges n) n
   pub last-illegal : isIllegal (instrAt memory (n - 1)) ≡ true
@@ -67,13 +69,14 @@ module _ (t : Technique) (memory : List ℕ) (n : ℕ) (edges : List ℕ) where
         shape = not-false _ (p .0 0 (omega arith));
         edges-start = p .1 .0;
         edges-end = p .1 .1 .0;
-        jumps-leave = p .1 .1 .1 .0;
-        sets-apart = p .1 .1 .1 .1 .0;
-        last-illegal = not-false _ (p .1 .1 .1 .1 .1 .0 0 (omega arith));
-        labels = p .1 .1 .1 .1 .1 .1 .0;
-        stores = p .1 .1 .1 .1 .1 .1 .1 .0;
-        jumps = p .1 .1 .1 .1 .1 .1 .1 .1 .0;
-        branches = p .1 .1 .1 .1 .1 .1 .1 .1 .1 .0;
+        edges-rise = p .1 .1 .1 .0;
+        jumps-leave = p .1 .1 .1 .1 .0;
+        sets-apart = p .1 .1 .1 .1 .1 .0;
+        last-illegal = not-false _ (p .1 .1 .1 .1 .1 .1 .0 0 (omega arith));
+        labels = p .1 .1 .1 .1 .1 .1 .1 .0;
+        stores = p .1 .1 .1 .1 .1 .1 .1 .1 .0;
+        jumps = p .1 .1 .1 .1 .1 .1 .1 .1 .1 .0;
+        branches = p .1 .1 .1 .1 .1 .1 .1 .1 .1 .1 .0;
       }
 
   pub faultless-accepted : Faultless t memory n edges → verdictOf t memory n edges ≡ Verdict.Accepted
@@ -86,10 +89,13 @@ module _ (t : Technique) (memory : List ℕ) (n : ℕ) (edges : List ℕ) where
           (
             f .edges-end,
             (
-              f .jumps-leave,
+              f .edges-rise,
               (
-                f .sets-apart,
-                ((λ k h. ap not (f .last-illegal)), (f .labels, (f .stores, (f .jumps, (f .branches, tt))))),
+                f .jumps-leave,
+                (
+                  f .sets-apart,
+                  ((λ k h. ap not (f .last-illegal)), (f .labels, (f .stores, (f .jumps, (f .branches, tt))))),
+                ),
               ),
             ),
           ),

@@ -1,6 +1,6 @@
 -- The published conditions, in the order and the words of 000: the claimed graph is a CFG for the code (section 3), and the
--- code and its graph satisfy I (4.1) or, with memory guards, I_s (5.1), as document 01 makes them finite. One clause is added, by
--- K2 of document 02: `targets-in-code`, of plain code.
+-- code and its graph satisfy I (4.1) or, with memory guards, I_s (5.1), as document 01 makes them finite. Two clauses are added by
+-- document 02: K2's `targets-in-code`, of plain code, and K3's `edges-rise`.
 use Prim.Native.Nat.{ℕ, _+_, _-_, _≤_, _<_}
 use mathlib.Core.Path.{_≡_}
 use mathlib.Core.Bool.{true}
@@ -12,6 +12,7 @@ use Rattle.isa.specs.declared.Instr.{Instr}
 use Rattle.isa.specs.declared.Technique.{Technique}
 use Rattle.isa.specs.Instructions.{instrAt, branchTarget}
 use Rattle.graph.specs.Claim.{edgeCount, jumpOf, targetOf}
+use Rattle.rising.specs.Rising.{Rising}
 use Rattle.guards.specs.declared.Slot.{Slot}
 use Rattle.guards.specs.Sequences.{jumpGuard, storeGuard, standsAt}
 
@@ -82,8 +83,11 @@ module _ (t : Technique) (memory : List ℕ) (n : ℕ) (edges : List ℕ) where
     pub targets-outside-guards : (a w : ℕ) → a < n → branchTarget (instrAt memory a) ≡ some w
         → ((j id : ℕ) → j < n → IsId edges j id → InnerWord memory (jumpGuard t n id) j w → ⊥) × OutsideStoreGuards t w
 
-  -- what a call on memory and graph must be given (number 6), and the published conditions
+  -- what a call on memory and graph must be given (number 6), the published conditions, and how the graph must be listed
   pub record Conditions : Type 0 where
     pub shape : callShaped (length memory) n (length edges) ≡ true
     pub graph : Graph
+    -- The paper's graph is a relation, without a sequence. This is the clause that K3 adds: "Edges must rise by jump address, then by
+    -- target, without repeats."
+    pub edges-rise : Rising edges
     pub instrumented : Instrumented

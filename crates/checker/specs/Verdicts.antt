@@ -1,4 +1,5 @@
--- The verdict (document 01, "Numbers given, in checking order"): the first rule with a faulty place answers, at its first one.
+-- The verdict (document 01, "Numbers given, in checking order", and K3 of document 02): the first rule with a faulty place answers, at
+-- its first one.
 use Prim.Native.Nat.{ℕ, _-_}
 use mathlib.Core.Bool.{Bool, not, cond}
 use mathlib.Core.List.{List, [], _∷_}
@@ -12,6 +13,7 @@ use Rattle.answers.specs.Shape.{callShaped}
 use Rattle.isa.specs.declared.Technique.{Technique}
 use Rattle.isa.specs.Instructions.{instrAt, isIllegal}
 use Rattle.graph.specs.Claim.{edgeCount}
+use Rattle.rising.specs.Rising.{notRising}
 use Rattle.graph.specs.Rules.{startsAtNoJump, endsOutsideCode, lacksEdge, overlaps, labelWrong}
 use Rattle.guards.specs.Rules.{storeUnguarded, jumpUnguarded, branchWrong}
 
@@ -40,11 +42,12 @@ firstBroken (rule ∷ rules) =
     (Verdict.Refused (rule .refusal) (rule .called (lowest (rule .faulty) (rule .places))))
     (firstBroken rules)
 
--- rules 7 to 10
+-- rules 7 to 10, and 18 among them: "checkers test it after 8"
 abbrev pub graphRules : List ℕ → ℕ → List ℕ → List Rule → List Rule
 graphRules memory n edges rest =
     rulePerEdge Refusal.EdgeFromNoJump edges (startsAtNoJump memory n edges)
     ∷ rulePerEdge Refusal.TargetOutsideCode edges (endsOutsideCode n edges)
+    ∷ rulePerEdge Refusal.EdgeNotRising edges (notRising edges)
     ∷ rulePerAddress Refusal.JumpWithoutEdge n (lacksEdge memory edges)
     ∷ rulePerAddress Refusal.TargetSetsOverlap n (overlaps edges n)
     ∷ rest
@@ -64,7 +67,7 @@ guardRules t memory n edges =
     ∷ rulePerAddress Refusal.BranchTarget n (branchWrong t memory n edges)
     ∷ []
 
--- 6 first, then 7 to 15
+-- 6 first, then 7, 8, 18, and 9 to 15
 abbrev pub rulesOf : Technique → List ℕ → ℕ → List ℕ → List Rule
 rulesOf t memory n edges =
     ruleOnce Refusal.Shape (not (callShaped (length memory) n (length edges))) Place.Nowhere

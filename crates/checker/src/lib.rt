@@ -1,4 +1,4 @@
-// The verdict on a program: the rules of document 01 in their order.
+// The verdict on a program: the rules of document 01 in their order, and K3's of document 02.
 ghost use mathlib.Core.Path.{_≡_};
 ghost use Prim.Native.Nat.{_≤_};
 ghost use Rattle.lists.specs.Tables.{Table};
@@ -27,6 +27,7 @@ use edges::first_without_edge;
 use edges::lowest_targets;
 use isa::Technique;
 use labels::first_label_wrong;
+use rising::first_not_rising;
 use sets::first_overlap;
 use sets::owners;
 use unguarded::first_bare_jump;
@@ -43,7 +44,7 @@ pub fn check(technique: Technique, memory: &[u64], n: usize, edges: &[u16]) -> V
     Verdict::Refused(Refusal::Shape, Place::Nowhere)
 }
 
-// Rules 7 and 8, and those after them.
+// Rules 7, 8 and 18, and those after them.
 fn check_edges(technique: Technique, memory: &[u64], n: usize, edges: &[u16]) -> Verdict
     requires { ⌜ Sized (now memory) n × (edgeCount (now edges) ≤ 2048) ⌝ }
     ensures { λ r. ⌜ r ≡ firstBroken (fromEdges technique (now (memory .entry)) n (now (edges .entry))) ⌝ }
@@ -56,6 +57,10 @@ fn check_edges(technique: Technique, memory: &[u64], n: usize, edges: &[u16]) ->
     let f = first_outside_code(n, edges);
     if f < m {
         return Verdict::Refused(Refusal::TargetOutsideCode, Place::Edge(f));
+    }
+    let g = first_not_rising(edges);
+    if g < m {
+        return Verdict::Refused(Refusal::EdgeNotRising, Place::Edge(g));
     }
     check_sets(technique, memory, n, edges)
 }

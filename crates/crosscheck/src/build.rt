@@ -1,8 +1,6 @@
 // A random guarded program of either technique. First a plan says what stands at each address, then the words and the edges are
 // written by it.
-use crate::edges::edge_at;
 use crate::edges::put_edge;
-use crate::edges::swap;
 use crate::random;
 use crate::random::Drawn;
 use crate::random::below;
@@ -66,14 +64,11 @@ pub(crate) fn program(
     let len = sum(n, data.x);
     let written = write_words(data.seed, guards, &plan, n, len, memory);
     let numbers = write_edges(guards, &plan, n, edges);
-    let shuffled = shuffle(written, edges, numbers / 2);
-    let repeats = below(shuffled, 3);
-    let all = repeat_edges(repeats.seed, edges, numbers, repeats.x);
     Code {
         n: n,
         len: len,
-        numbers: all.x,
-        seed: all.seed,
+        numbers: numbers,
+        seed: written,
     }
 }
 
@@ -449,7 +444,7 @@ fn some_label(seed: u64, plan: &[usize; 512], n: usize, set: usize) -> Drawn {
     }
 }
 
-// An edge from each jump to each label of its set; how many edge numbers.
+// An edge from each jump to each label of its set, in rising sequence; how many edge numbers.
 fn write_edges(guards: bool, plan: &[usize; 512], n: usize, edges: &mut [u16; 4200]) -> usize {
     let after = sequences::words_after_first(guards, words::JMP);
     let mut numbers = 0;
@@ -482,34 +477,4 @@ fn write_targets(
         at += 1;
     }
     numbers
-}
-
-fn shuffle(seed: u64, edges: &mut [u16; 4200], count: usize) -> u64 {
-    let mut next = seed;
-    let mut k = 0;
-    while k < count {
-        let other = below(next, count);
-        swap(edges, k, other.x);
-        next = other.seed;
-        k += 1;
-    }
-    next
-}
-
-fn repeat_edges(seed: u64, edges: &mut [u16; 4200], numbers: usize, repeats: usize) -> Drawn {
-    if numbers == 0 {
-        return Drawn { x: 0, seed: seed };
-    }
-    let mut next = seed;
-    let mut end = numbers;
-    let mut k = 0;
-    while k < repeats {
-        let drawn = below(next, numbers / 2);
-        let again = edge_at(&*edges, drawn.x);
-        put_edge(edges, end, again.from, again.to);
-        next = drawn.seed;
-        end = sum(end, 2);
-        k += 1;
-    }
-    Drawn { x: end, seed: next }
 }

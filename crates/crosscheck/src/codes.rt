@@ -79,7 +79,7 @@ fn compare(tally: Tally, guards: bool, code: Code, memory: &[u64], edges: &[u16]
 fn compare_both(tally: Tally, guards: bool, code: Code, memory: &[u64], edges: &[u16]) -> Course {
     let first = finding_of(guards, memory, code.n, edges);
     let other = second::check(guards, memory, code.n, edges);
-    let counted = count(tally, other.number, true);
+    let counted = count(tally, tally::place_of(other.number), true);
     let course = Course {
         tally: count(counted, tally::DISAGREEMENTS, !agree(first, other)),
         seed: code.seed,

@@ -6,6 +6,7 @@ use crate::build::sum;
 use crate::edges::edge_at;
 use crate::edges::put_edge;
 use crate::edges::put_number;
+use crate::edges::sort;
 use crate::edges::swap;
 use crate::random;
 use crate::random::Drawn;
@@ -210,7 +211,16 @@ fn move_edge(code: Code, k: usize, edges: &mut [u16; 4200]) -> Code {
     let third = below(other.seed, 3);
     let end = if third.x == 0 { 0 } else { 1 };
     put_number(edges, sum(sum(k, k), end), other.x);
-    code.seeded(third.seed)
+    sorted_mostly(code.seeded(third.seed), edges)
+}
+
+// The edges in rising sequence again, three times in four.
+fn sorted_mostly(code: Code, edges: &mut [u16; 4200]) -> Code {
+    let quarter = below(code.seed, 4);
+    if quarter.x > 0 {
+        sort(edges, code.numbers / 2);
+    }
+    code.seeded(quarter.seed)
 }
 
 // The edge goes, or all of its jump's, or a new one comes, or two change places.
@@ -219,10 +229,10 @@ fn damage_edges(code: Code, k: usize, edges: &mut [u16; 4200]) -> Code {
     let kind = drawn.x;
     let next = code.seeded(drawn.seed);
     match kind {
-        0 => drop_edge(next, k, edges),
+        0 => sorted_mostly(drop_edge(next, k, edges), edges),
         1 => drop_jump(next, edge_at(&*edges, k).from, edges),
         2 => swap_edges(next, k, edges),
-        _ => join_sets(next, edges),
+        _ => sorted_mostly(join_sets(next, edges), edges),
     }
 }
 
@@ -264,7 +274,7 @@ fn drop_jump(code: Code, jump: usize, edges: &mut [u16; 4200]) -> Code {
     with_numbers(code, sum(kept, kept))
 }
 
-// One more edge: from a jump of the program to a target of the program.
+// One more edge, from a jump of the program to a target of the program, or one of its edges again.
 fn join_sets(code: Code, edges: &mut [u16; 4200]) -> Code {
     if code.numbers == 0 {
         return code;

@@ -24,6 +24,7 @@ refused 12: #
 refused 13: #
 refused 14: #
 refused 15: #
+refused 18: #
 disagreements #
 lists of calls #
 steps held # (jumps #, stores #), outside the graph #, code changed #

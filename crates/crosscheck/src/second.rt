@@ -1,7 +1,8 @@
-// The checker a second time, naive and direct: document 01, "Claimed graph", "Conditions" and "Numbers given", with K2 of document
-// 02, each condition by its own words, sets by nested loops over the edges and guards by comparing words.
+// The checker a second time, naive and direct: document 01, "Claimed graph", "Conditions" and "Numbers given", with K2 and K3 of
+// document 02, each condition by its own words, sets by nested loops over the edges and guards by comparing words.
 use crate::edges::NONE;
 use crate::edges::edge_at;
+use crate::edges::is_above;
 use crate::sequences;
 use crate::sequences::Guard;
 use crate::words;
@@ -15,7 +16,8 @@ pub(crate) struct Finding {
     pub(crate) place: usize,
 }
 
-// "7 and 8 go with the place of the first faulty edge, from 0; 9 to 15 with the lowest faulty address."
+// "7 and 8 go with the place of the first faulty edge, from 0; 9 to 15 with the lowest faulty address." 18 goes "with the place of
+// the first edge that doesn't rise".
 pub(crate) fn check(guards: bool, memory: &[u64], n: usize, edges: &[u16]) -> Finding {
     if misshaped(memory.len(), n, edges.len()) {
         return Finding {
@@ -24,10 +26,12 @@ pub(crate) fn check(guards: bool, memory: &[u64], n: usize, edges: &[u16]) -> Fi
             place: 0,
         };
     }
-    let mut number: usize = 7;
-    while number <= 15 {
-        let counts = if number <= 8 { 1 } else { 2 };
-        let places = if number <= 8 { edges.len() / 2 } else { n };
+    let mut turn: usize = 0;
+    while turn < 10 {
+        let number = number_in_turn(turn);
+        let of_edges = turn < 3;
+        let counts = if of_edges { 1 } else { 2 };
+        let places = if of_edges { edges.len() / 2 } else { n };
         let place = first_fault(number, guards, memory, n, edges, places);
         if place < places {
             return Finding {
@@ -36,12 +40,22 @@ pub(crate) fn check(guards: bool, memory: &[u64], n: usize, edges: &[u16]) -> Fi
                 place: place,
             };
         }
-        number += 1;
+        turn += 1;
     }
     Finding {
         number: 0,
         counts: 0,
         place: 0,
+    }
+}
+
+// "checkers test it after 8": 7, 8, 18, and then 9 to 15.
+fn number_in_turn(turn: usize) -> usize {
+    match turn {
+        0 => 7,
+        1 => 8,
+        2 => 18,
+        _ => std::num::wrapping_add_usize(turn, 6),
     }
 }
 
@@ -70,7 +84,7 @@ fn first_fault(
     k
 }
 
-// Number 7 to 15 says something of a word of this kind, or of any edge or address.
+// Number 7 to 15 or 18 says something of a word of this kind, or of any edge or address.
 fn concerns(number: usize, guards: bool, kind: usize) -> bool {
     match number {
         9 | 10 | 14 => kind == words::JMP,
@@ -80,7 +94,7 @@ fn concerns(number: usize, guards: bool, kind: usize) -> bool {
     }
 }
 
-// Number 7 to 15 applies at this edge or address. All earlier ones apply nowhere.
+// Number 7 to 15 or 18 applies at this edge or address. All that are tested earlier apply nowhere.
 fn faulty(number: usize, guards: bool, memory: &[u64], n: usize, edges: &[u16], k: usize) -> bool {
     match number {
         7 => !is_jump(memory, n, edge_at(edges, k).from),
@@ -91,8 +105,15 @@ fn faulty(number: usize, guards: bool, memory: &[u64], n: usize, edges: &[u16], 
         12 => mislabelled(memory, n, edges, k),
         13 => !store_guarded(memory, n, k),
         14 => !jump_guarded(guards, memory, n, lowest_target(edges, n, k), k),
+        18 => !rises(edges, k),
         _ => target_wrong(guards, memory, n, branch_target(memory, k)),
     }
+}
+
+// The edge is above the one before it, if there is one.
+fn rises(edges: &[u16], k: usize) -> bool {
+    let before = edge_at(edges, std::num::wrapping_sub_usize(k, 1));
+    (k == 0) | is_above(edge_at(edges, k), before)
 }
 
 fn is_jump(memory: &[u64], n: usize, address: usize) -> bool {

@@ -3,36 +3,43 @@ pub(crate) struct Tally {
     pub(crate) counts: [u64; 32],
 }
 
-// The numbers 0 to 15 stand at themselves, then what else is counted.
-pub(crate) const DISAGREEMENTS: usize = 16;
+// The numbers 0 to 15 stand at themselves, 18 after them, and then what else is counted.
+const NOT_RISING: usize = 16;
 
-pub(crate) const LISTS: usize = 17;
+pub(crate) const DISAGREEMENTS: usize = 17;
 
-pub(crate) const STEPS: usize = 18;
+pub(crate) const LISTS: usize = 18;
 
-pub(crate) const JUMPS: usize = 19;
+pub(crate) const STEPS: usize = 19;
 
-pub(crate) const STORES: usize = 20;
+pub(crate) const JUMPS: usize = 20;
 
-pub(crate) const OUTSIDE: usize = 21;
+pub(crate) const STORES: usize = 21;
 
-pub(crate) const CODE_CHANGED: usize = 22;
+pub(crate) const OUTSIDE: usize = 22;
 
-pub(crate) const STOPS: usize = 23;
+pub(crate) const CODE_CHANGED: usize = 23;
 
-pub(crate) const FOURS: usize = 24;
+pub(crate) const STOPS: usize = 24;
 
-pub(crate) const WRONG_STOPS: usize = 25;
+pub(crate) const FOURS: usize = 25;
 
-pub(crate) const RUNS: usize = 26;
+pub(crate) const WRONG_STOPS: usize = 26;
 
-pub(crate) const WRONG_RUNS: usize = 27;
+pub(crate) const RUNS: usize = 27;
 
-pub(crate) const WRITES: usize = 28;
+pub(crate) const WRONG_RUNS: usize = 28;
 
-pub(crate) const REFUSED_WRITES: usize = 29;
+pub(crate) const WRITES: usize = 29;
 
-pub(crate) const WRONG_WRITES: usize = 30;
+pub(crate) const REFUSED_WRITES: usize = 30;
+
+pub(crate) const WRONG_WRITES: usize = 31;
+
+// Where an answer's number stands.
+pub(crate) fn place_of(number: usize) -> usize {
+    if number == 18 { NOT_RISING } else { number }
+}
 
 // One more at a place, where it came up.
 pub(crate) fn count(tally: Tally, place: usize, came_up: bool) -> Tally {

@@ -1,4 +1,4 @@
-// Bytes of parcels: a parcel of given counts, its other bytes a pattern, and what the lent places must hold afterwards.
+// Bytes of parcels: a parcel of given counts, its edges rising, its other bytes a pattern; and what the lent places must hold afterwards.
 pub(crate) const ROOM: usize = 41000;
 
 pub(crate) const UNTOUCHED_WORD: u64 = 0xa5a5_a5a5_a5a5_a5a5;
@@ -38,7 +38,7 @@ pub(crate) fn sum(a: usize, b: usize) -> usize {
     std::num::wrapping_add_usize(a, b)
 }
 
-// A parcel of these counts, its other bytes a pattern.
+// A parcel of these counts, its edges rising, its other bytes a pattern.
 pub(crate) fn laid(c: Counts) -> [u8; ROOM] {
     let mut bytes = [0u8; ROOM];
     let mut k = 0;
@@ -49,6 +49,14 @@ pub(crate) fn laid(c: Counts) -> [u8; ROOM] {
     put_count(&mut bytes, 0, c.code);
     put_count(&mut bytes, edges_at(c), c.edges);
     put_count(&mut bytes, data_at(c), c.words);
+    put_jumps(&mut bytes, sum(edges_at(c), 4), c.edges);
+    bytes
+}
+
+// The same with the last two edges as one edge twice.
+pub(crate) fn laid_with_repeat(c: Counts) -> [u8; ROOM] {
+    let mut bytes = laid(c);
+    copy_four(&mut bytes, std::num::wrapping_sub_usize(data_at(c), 8));
     bytes
 }
 
@@ -57,6 +65,29 @@ pub(crate) fn laid_with_huge(c: Counts, at: usize) -> [u8; ROOM] {
     let mut bytes = laid(c);
     put_count(&mut bytes, at, 0xffff_ffff);
     bytes
+}
+
+// The edges from a place on start at 0, 1, 2 and so on, and so they rise.
+fn put_jumps(bytes: &mut [u8; ROOM], at: usize, count: usize) {
+    let mut k = 0;
+    while k < count {
+        let place = sum(at, k % 4096 * 4);
+        put_byte(bytes, place, (k % 256) as u8);
+        put_byte(bytes, sum(place, 1), (k / 256 % 256) as u8);
+        k += 1;
+    }
+}
+
+// The four bytes at a place, again after them.
+fn copy_four(bytes: &mut [u8; ROOM], at: usize) {
+    let a = byte(&*bytes, at);
+    let b = byte(&*bytes, sum(at, 1));
+    let c = byte(&*bytes, sum(at, 2));
+    let d = byte(&*bytes, sum(at, 3));
+    put_byte(bytes, sum(at, 4), a);
+    put_byte(bytes, sum(at, 5), b);
+    put_byte(bytes, sum(at, 6), c);
+    put_byte(bytes, sum(at, 7), d);
 }
 
 fn pattern(k: usize) -> u8 {

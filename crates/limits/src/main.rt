@@ -1,5 +1,5 @@
-// Parcels at their limits (document 01, "Parcel", and the rows without a star): read, refused and written back. A refusal, and
-// whatever a call does not put there, must leave the lent places as they were.
+// Parcels at their limits (document 01, "Parcel", and the rows without a star; document 02, K3): read, refused and written back. A
+// refusal, and whatever a call does not put there, must leave the lent places as they were.
 mod bytes;
 
 use answers::Place;
@@ -15,11 +15,15 @@ use bytes::edges_at;
 use bytes::holds;
 use bytes::laid;
 use bytes::laid_with_huge;
+use bytes::laid_with_repeat;
 use bytes::same_front;
 use bytes::size_of;
 use bytes::sum;
 use parcel::Read;
 use parcel::Written;
+
+// No edge: every edge rises.
+const NONE: usize = 65536;
 
 // How many rows were tried, and how many failed.
 struct Rows {
@@ -58,6 +62,7 @@ fn main() {
     short_places().print(b"places one too short: ");
     cuts().print(b"parcels cut short or too long: ");
     written_back().print(b"parcels written back: ");
+    not_written_back().print(b"parcels read, and not written back: ");
     refused_writes().print(b"refused by the writer: ");
 }
 
@@ -155,18 +160,35 @@ fn written_back() -> Rows {
         .with(writes_back(counted(2048, 2048, 2048)))
 }
 
-// The writer tests 6 first, then 5.
-fn refused_writes() -> Rows {
+// "Such a parcel is read but not written back", with the place of its last edge.
+fn not_written_back() -> Rows {
     Rows::none()
-        .with(refuses_to_write(7, 3, 4, 75, 5))
-        .with(refuses_to_write(4096, 2048, 4096, 40971, 5))
-        .with(refuses_to_write(7, 0, 4, ROOM, 6))
-        .with(refuses_to_write(7, 8, 4, ROOM, 6))
-        .with(refuses_to_write(2049, 2049, 4, ROOM, 6))
-        .with(refuses_to_write(2052, 3, 4, ROOM, 6))
-        .with(refuses_to_write(7, 3, 3, ROOM, 6))
-        .with(refuses_to_write(7, 3, 4098, ROOM, 6))
-        .with(refuses_to_write(7, 0, 4, 0, 6))
+        .with(reads_repeat(counted(9, 2, 0)))
+        .with(reads_repeat(counted(3, 5, 4)))
+        .with(reads_repeat(counted(2048, 2048, 2048)))
+}
+
+// The writer tests 6 first, then 18, then 5.
+fn refused_writes() -> Rows {
+    let shapes = refused_shapes(Rows::none());
+    shapes
+        .with(refuses_to_write(7, 3, 4, 0, ROOM, 18))
+        .with(refuses_to_write(7, 3, 4, 0, 0, 18))
+        .with(refuses_to_write(4096, 2048, 4096, 2046, 40972, 18))
+        .with(refuses_to_write(7, 0, 4, 0, ROOM, 6))
+        .with(refuses_to_write(7, 3, 3, 0, 0, 6))
+}
+
+fn refused_shapes(rows: Rows) -> Rows {
+    rows.with(refuses_to_write(7, 3, 4, NONE, 75, 5))
+        .with(refuses_to_write(4096, 2048, 4096, NONE, 40971, 5))
+        .with(refuses_to_write(7, 0, 4, NONE, ROOM, 6))
+        .with(refuses_to_write(7, 8, 4, NONE, ROOM, 6))
+        .with(refuses_to_write(2049, 2049, 4, NONE, ROOM, 6))
+        .with(refuses_to_write(2052, 3, 4, NONE, ROOM, 6))
+        .with(refuses_to_write(7, 3, 3, NONE, ROOM, 6))
+        .with(refuses_to_write(7, 3, 4098, NONE, ROOM, 6))
+        .with(refuses_to_write(7, 0, 4, NONE, 0, 6))
 }
 
 // A whole parcel of these counts, read into places with room, gives the number, or is read where that is 0.
@@ -247,6 +269,24 @@ fn right_refusal(refusal: Refusal, place: Place, number: u8) -> bool {
     }
 }
 
+// A parcel whose last edge is the one before it again is read, and 18 to the writer, which leaves its place as it was.
+fn reads_repeat(c: Counts) -> bool {
+    let bytes = laid_with_repeat(c);
+    let mut memory = [UNTOUCHED_WORD; 4200];
+    let mut edges = [UNTOUCHED_NUMBER; 4200];
+    let mut out = [UNTOUCHED_BYTE; ROOM];
+    let size = size_of(c);
+    if size > ROOM {
+        return false;
+    }
+    let answer = parcel::read_parcel(&bytes[0..size], &mut memory, &mut edges);
+    let read = read_so(answer, c) && holds(c, &bytes, &memory, &edges);
+    let written = write_front(c, &memory, &edges, &mut out);
+    read
+        && refused_to_write(written, 18, std::num::wrapping_sub_usize(c.edges, 1))
+        && same_front(&bytes, &out, 0)
+}
+
 // A parcel read and written again has the same bytes, and a place longer than it keeps the rest.
 fn writes_back(c: Counts) -> bool {
     let bytes = laid(c);
@@ -284,10 +324,18 @@ fn written_size(written: Written) -> usize {
     }
 }
 
-// So many words with n of code, so many edge numbers and a place of so many bytes are refused, and the place stays as it was.
-fn refuses_to_write(len: usize, n: usize, numbers: usize, room: usize, number: u8) -> bool {
+// So many words with n of code, so many edge numbers and a place of so many bytes are refused, and the place stays as it was. The
+// edges rise, but for the one after `last`, which is that edge again.
+fn refuses_to_write(
+    len: usize,
+    n: usize,
+    numbers: usize,
+    last: usize,
+    room: usize,
+    number: u8,
+) -> bool {
     let memory = [7u64; 4200];
-    let edges = [0u16; 4200];
+    let edges = rising_but(last);
     let mut out = [UNTOUCHED_BYTE; ROOM];
     if len > 4200 {
         return false;
@@ -299,12 +347,39 @@ fn refuses_to_write(len: usize, n: usize, numbers: usize, room: usize, number: u
         return false;
     }
     let written = parcel::write_parcel(&memory[0..len], n, &edges[0..numbers], &mut out[0..room]);
-    refused_to_write(written, number) && same_front(&laid(counted(1, 0, 0)), &out, 0)
+    refused_to_write(written, number, sum(last, 1)) && same_front(&laid(counted(1, 0, 0)), &out, 0)
 }
 
-fn refused_to_write(written: Written, number: u8) -> bool {
+// Edge k is from k to 0, and the one after `last` is the same as it.
+fn rising_but(last: usize) -> [u16; 4200] {
+    let mut edges = [0u16; 4200];
+    let mut k = 0;
+    while k < 2100 {
+        let jump = if k == sum(last, 1) { last } else { k };
+        edges[2 * k] = (jump % 65536) as u16;
+        k += 1;
+    }
+    edges
+}
+
+// Refused with the number, and with 18 at that edge.
+fn refused_to_write(written: Written, number: u8, edge: usize) -> bool {
     match written {
         Written::Bytes(_) => false,
-        Written::Refused(refusal, place) => right_refusal(refusal, place, number),
+        Written::Refused(refusal, place) => {
+            if number == 18 {
+                not_rising_at(refusal, place, edge)
+            } else {
+                right_refusal(refusal, place, number)
+            }
+        }
+    }
+}
+
+fn not_rising_at(refusal: Refusal, place: Place, edge: usize) -> bool {
+    match place {
+        Place::Edge(k) => answers::number(refusal) == 18 && k == edge,
+        Place::Address(_) => false,
+        Place::Nowhere => false,
     }
 }

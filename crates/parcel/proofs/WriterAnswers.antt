@@ -3,7 +3,7 @@ use mathlib.Core.Path.{_≡_, refl, _∙_}
 use mathlib.Core.Bool.{true, false}
 use mathlib.Core.List.{List}
 use Prim.Native.Nat.{ℕ, _+_, _-_, _*_, _%_, _≤_, _<_}
-use lib.Dec.{leb, eqb}
+use lib.Dec.{ltb, leb, eqb}
 use lib.ListN.{length, take, drop, length-drop}
 use lib.Seq.{length-take-le}
 use borrow.Author.Tests.{leb-true, eqb-true, lt-ltb, le-ltb}
@@ -13,6 +13,8 @@ use Rattle.answers.specs.declared.Refusal.{Refusal}
 use Rattle.answers.specs.declared.Place.{Place}
 use Rattle.answers.proofs.Shape.{Shaped, shaped}
 use Rattle.lists.specs.Places.{putOver}
+use Rattle.graph.specs.Claim.{edgeCount}
+use Rattle.rising.specs.Rising.{firstNotRising}
 use Rattle.parcel.specs.Parcel.{parcelOf, WrittenSo}
 use Rattle.parcel.specs.declared.Written.{Written}
 use Rattle.parcel.proofs.Sections.{length-parcel}
@@ -45,8 +47,15 @@ module _ (m : List ℕ) (n : ℕ) (g s : List ℕ) where
         let f = well-shaped (length m) n (length g) h .memory in
         length-parcel 2 (take n m) g (drop n m) ∙ simp (length-take-le n m (f .within), length-drop)
 
-    pub too-long : length s < size → WrittenSo m n g s (Written.Refused Refusal.PlaceTooShort Place.Nowhere) s
-    too-long l = record { answers = simp (h, size-is, lt-ltb (length s) size l); bytes = refl }
+    pub falls : firstNotRising g < edgeCount g → WrittenSo m n g s (Written.Refused Refusal.EdgeNotRising (Place.Edge (firstNotRising g))) s
+    falls l = record { answers = rw (h, lt-ltb (firstNotRising g) (edgeCount g) l); bytes = refl }
 
-    pub written : {s′ : List ℕ} → size ≤ length s → s′ ≡ putOver (parcelOf 2 (take n m) g (drop n m)) s → WrittenSo m n g s (Written.Bytes size) s′
-    written l e = record { answers = simp (h, size-is, le-ltb (length s) size l); bytes = e }
+    module _ (r : edgeCount g ≤ firstNotRising g) where
+      rise : ltb (firstNotRising g) (edgeCount g) ≡ false
+      rise = le-ltb (firstNotRising g) (edgeCount g) r
+
+      pub too-long : length s < size → WrittenSo m n g s (Written.Refused Refusal.PlaceTooShort Place.Nowhere) s
+      too-long l = record { answers = simp (h, rise, size-is, lt-ltb (length s) size l); bytes = refl }
+
+      pub written : {s′ : List ℕ} → size ≤ length s → s′ ≡ putOver (parcelOf 2 (take n m) g (drop n m)) s → WrittenSo m n g s (Written.Bytes size) s′
+      written l e = record { answers = simp (h, rise, size-is, le-ltb (length s) size l); bytes = e }

@@ -1,4 +1,4 @@
--- What a parcel holds, and what reading and writing it answer (document 01, "Parcel", and numbers 1 to 6).
+-- What a parcel holds, and what reading and writing it answer (document 01, "Parcel", and numbers 1 to 6; document 02, K3).
 -- An edge number has w bytes; today w is 2.
 use Prim.Native.Nat.{ℕ, _+_, _*_, _-_, _/_}
 use mathlib.Core.Path.{_≡_}
@@ -10,7 +10,9 @@ use Rattle.answers.specs.declared.Refusal.{Refusal}
 use Rattle.answers.specs.declared.Place.{Place}
 use Rattle.answers.specs.Shape.{callShaped}
 use Rattle.parcel.specs.Bytes.{numberOf, bytesOf, numbersOf, allBytesOf}
-use Rattle.lists.specs.Places.{putOver}
+use Rattle.lists.specs.Places.{shorter, putOver}
+use Rattle.graph.specs.Claim.{edgeCount}
+use Rattle.rising.specs.Rising.{firstNotRising}
 use Rattle.parcel.specs.declared.reader.Count.{Count}
 use Rattle.parcel.specs.declared.Read.{Read}
 use Rattle.parcel.specs.declared.Written.{Written}
@@ -90,10 +92,14 @@ sectionOf w p xs = bytesOf 4 (length xs / p) ++ allBytesOf w xs
 unfoldable pub parcelOf : ℕ → List ℕ → List ℕ → List ℕ → List ℕ
 parcelOf w code edges words = sectionOf 8 1 code ++ (sectionOf w 2 edges ++ sectionOf 8 1 words)
 
--- "(the writer tests 6 first)", then 5: room bytes are lent for these bytes
-abbrev pub writtenOf : Bool → ℕ → List ℕ → Written
-writtenOf shaped room bytes =
-    cond shaped (cond (ltb room (length bytes)) (Written.Refused Refusal.PlaceTooShort Place.Nowhere) (Written.Bytes (length bytes)))
+-- "(the writer tests 6 first)"; K3: 18, "with the place of the first edge that doesn't rise", "after 6 and before 5, on the numbers
+-- alone"; then 5, where a place that is lent is too short for these bytes
+abbrev pub writtenOf : Bool → List ℕ → Bool → List ℕ → Written
+writtenOf shaped edges short bytes =
+    cond shaped
+    (cond (ltb (firstNotRising edges) (edgeCount edges)) (Written.Refused Refusal.EdgeNotRising (Place.Edge (firstNotRising edges)))
+    (cond short (Written.Refused Refusal.PlaceTooShort Place.Nowhere)
+    (Written.Bytes (length bytes))))
     (Written.Refused Refusal.Shape Place.Nowhere)
 
 -- "The writer touches only the parcel's own bytes."
@@ -103,5 +109,8 @@ afterWrite (Written.Refused why place) new old = old
 
 -- what writing the memory m, its first n words code, and the edges g over the bytes s comes to
 pub record WrittenSo (m : List ℕ) (n : ℕ) (g s : List ℕ) (answer : Written) (s′ : List ℕ) : Type 0 where
-  pub answers : answer ≡ writtenOf (callShaped (length m) n (length g)) (length s) (parcelOf 2 (take n m) g (drop n m))
+  pub answers :
+      answer
+      ≡ writtenOf (callShaped (length m) n (length g)) g (shorter s (length (parcelOf 2 (take n m) g (drop n m))))
+      (parcelOf 2 (take n m) g (drop n m))
   pub bytes : s′ ≡ afterWrite answer (parcelOf 2 (take n m) g (drop n m)) s

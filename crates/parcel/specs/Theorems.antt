@@ -1,4 +1,5 @@
 -- The reader and the writer give back each other: of what bytes hold, and of the two calls, whatever else is in the places lent to them.
+-- The writer writes where the edges rise (document 02, K3), and so the calls give back each other there.
 use Prim.Native.Nat.{ℕ, _+_, _*_, _-_, _/_, _^_, _≤_, _<_}
 use mathlib.Core.Path.{_≡_}
 use mathlib.Core.Bool.{true}
@@ -6,7 +7,10 @@ use mathlib.Core.List.{List}
 use lib.ListN.{length, getD, take, drop}
 use Rattle.answers.specs.Shape.{callShaped}
 use Rattle.lists.specs.Places.{putOver}
-use Rattle.parcel.specs.Parcel.{holds, readOf, parcelOf, ReadSo, WrittenSo}
+use Rattle.answers.specs.declared.Refusal.{Refusal}
+use Rattle.answers.specs.declared.Place.{Place}
+use Rattle.rising.specs.Rising.{Rising, FirstNotRising}
+use Rattle.parcel.specs.Parcel.{holds, readOf, edgesIn, parcelOf, ReadSo, WrittenSo}
 use Rattle.parcel.specs.declared.Read.{Read}
 use Rattle.parcel.specs.declared.Written.{Written}
 
@@ -29,7 +33,28 @@ ReadWritten =
 abbrev pub WrittenRead : Type 0
 WrittenRead = (s code edges words : List ℕ) → AllBelow 256 s → readOf 2 s ≡ holds code edges words → parcelOf 2 code edges words ≡ s
 
--- the same of the calls. What the writer left, read into places that are long enough: the counts, and the same memory and edges
+-- the same of the calls. Bytes s written over p, in a place that is long enough
+pub record WrittenBack (s p : List ℕ) (answer : Written) (p′ : List ℕ) : Type 0 where
+  pub size : answer ≡ Written.Bytes (length s)
+  pub bytes : p′ ≡ putOver s p
+
+-- edges g that are not written over p: 18, with the first edge that doesn't rise, and nothing is changed
+pub record NotWritten (g p : List ℕ) (answer : Written) (p′ : List ℕ) : Type 0 where
+  pub edge : ℕ
+  pub first : FirstNotRising g edge
+  pub refused : answer ≡ Written.Refused Refusal.EdgeNotRising (Place.Edge edge)
+  pub unchanged : p′ ≡ p
+
+-- a memory and a graph that every call takes are written exactly where the edges rise, whatever the words; elsewhere it is 18
+pub record WrittenWhereRising : Type 0 where
+  pub rising : (m : List ℕ) (n : ℕ) (g p p′ : List ℕ) (answer : Written) → WrittenSo m n g p answer p′
+      → callShaped (length m) n (length g) ≡ true → length (parcelOf 2 (take n m) g (drop n m)) ≤ length p → Rising g
+      → WrittenBack (parcelOf 2 (take n m) g (drop n m)) p answer p′
+  pub only : (m : List ℕ) (n : ℕ) (g p p′ : List ℕ) (k : ℕ) → WrittenSo m n g p (Written.Bytes k) p′ → Rising g
+  pub otherwise : (m : List ℕ) (n : ℕ) (g p p′ : List ℕ) (answer : Written) → WrittenSo m n g p answer p′
+      → callShaped (length m) n (length g) ≡ true → (Rising g → ⊥) → NotWritten g p answer p′
+
+-- What the writer left, read into places that are long enough: the counts, and the same memory and edges
 pub record ReadBack (m : List ℕ) (n : ℕ) (g m₀ g₀ : List ℕ) (answer : Read) (m₁ g₁ : List ℕ) : Type 0 where
   pub counts : answer ≡ Read.Counts n (length g / 2) (length m - n)
   pub memory : m₁ ≡ putOver m m₀
@@ -41,16 +66,27 @@ ReadAfterWrite =
     → (m₀ g₀ m₁ g₁ : List ℕ) (answer : Read) → ReadSo (take k s′) m₀ g₀ answer m₁ g₁ → length m ≤ length m₀ → length g ≤ length g₀
     → ReadBack m n g m₀ g₀ answer m₁ g₁
 
--- what the reader put, written into a place that is long enough: the same bytes
-pub record WrittenBack (s p : List ℕ) (answer : Written) (p′ : List ℕ) : Type 0 where
-  pub size : answer ≡ Written.Bytes (length s)
-  pub bytes : p′ ≡ putOver s p
+-- what the reader put, of the bytes s, handed to the writer
+pub record ReadThenWritten (s p : List ℕ) (answer : Written) (p′ : List ℕ) : Type 0 where
+  pub memory : List ℕ
+  pub numbers : List ℕ
+  pub memory-read : List ℕ
+  pub numbers-read : List ℕ
+  pub n : ℕ
+  pub e : ℕ
+  pub d : ℕ
+  pub are-bytes : AllBelow 256 s
+  pub read : ReadSo s memory numbers (Read.Counts n e d) memory-read numbers-read
+  pub written : WrittenSo (take (n + d) memory-read) n (take (e * 2) numbers-read) p answer p′
 
-abbrev pub WriteAfterRead : Type 0
-WriteAfterRead =
-    (s m g m′ g′ : List ℕ) (n e d : ℕ) → ReadSo s m g (Read.Counts n e d) m′ g′ → AllBelow 256 s
-    → (p p′ : List ℕ) (answer : Written) → WrittenSo (take (n + d) m′) n (take (e * 2) g′) p answer p′ → length s ≤ length p
-    → WrittenBack s p answer p′
+-- it gives back the same bytes exactly where the edges of the bytes rise, and is 18 where they don't
+pub record WriteAfterRead : Type 0 where
+  pub rising : (s p p′ : List ℕ) (answer : Written) → ReadThenWritten s p answer p′ → length s ≤ length p → Rising (edgesIn (readOf 2 s))
+      → WrittenBack s p answer p′
+  pub only : (s p p′ : List ℕ) (answer : Written) → ReadThenWritten s p answer p′ → WrittenBack s p answer p′
+      → Rising (edgesIn (readOf 2 s))
+  pub otherwise : (s p p′ : List ℕ) (answer : Written) → ReadThenWritten s p answer p′ → (Rising (edgesIn (readOf 2 s)) → ⊥)
+      → NotWritten (edgesIn (readOf 2 s)) p answer p′
 
 -- no parcel is longer than 40,972 bytes, so a longer input is read as its first 40,973 bytes are, or any more of them
 abbrev pub FrontSuffices : Type 0

@@ -1,4 +1,4 @@
-// Parcels (document 01, "Parcel"): the reader and the writer.
+// Parcels (document 01, "Parcel"; document 02, K3): the reader and the writer.
 mod bytes;
 mod reader;
 
@@ -50,7 +50,7 @@ pub fn read_parcel(parcel: &[u8], memory: &mut [u64], edges: &mut [u16]) -> Read
     found
 }
 
-// Writes the memory, its first n words code, and the edges as a parcel.
+// Writes the memory, its first n words code, and the edges as a parcel, if the edges rise.
 pub fn write_parcel(memory: &[u64], n: usize, edges: &[u16], parcel: &mut [u8]) -> Written
     ensures { λ r. ⌜ WrittenSo (now (memory .entry)) n (now (edges .entry)) (now (parcel .entry)) r (now (parcel .exit)) ⌝ }
 {
@@ -58,6 +58,10 @@ pub fn write_parcel(memory: &[u64], n: usize, edges: &[u16], parcel: &mut [u8]) 
     let numbers = edges.len();
     if !answers::call_shaped(len, n, numbers) {
         return Written::Refused(Refusal::Shape, Place::Nowhere);
+    }
+    let k = rising::first_not_rising(edges);
+    if k < numbers / 2 {
+        return Written::Refused(Refusal::EdgeNotRising, Place::Edge(k));
     }
     let edges_at = 4 + n * 8;
     let data_at = edges_at + (4 + numbers * 2);

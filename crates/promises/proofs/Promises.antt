@@ -6,10 +6,12 @@ use Rattle.integrity.proofs.Demand.{demand-3, stop-four-at-jumps}
 use Rattle.integrity.proofs.Traversal.{run-is-its-steps}
 use Rattle.integrity.proofs.Shown.{programs-accepted, calls-made, stop-four-shown}
 use Rattle.parcel.proofs.RoundTrips.{read-written, written-read}
-use Rattle.parcel.proofs.Calls.{read-after-write, write-after-read}
+use Rattle.parcel.proofs.Calls.{written-where-rising, read-after-write, write-after-read}
 use Rattle.line.proofs.Theorems.{prefix-suffices}
+use Rattle.line.proofs.Canonical.{accepted-parcels-canonical}
 use Rattle.table.proofs.Table.{table}
 use Rattle.report.proofs.ByKind.{kinds-add-up}
+use Rattle.report.proofs.AsListed.{edges-as-listed}
 use Rattle.report.proofs.Examples.{reports-shown}
 use Rattle.totals.proofs.Lists.{counted-exactly, totals-of-list}
 use Rattle.totals.proofs.Examples.{totals-shown}
@@ -42,5 +44,8 @@ kept =
       totals-shown = totals-shown;
       stop-four-at-jumps = stop-four-at-jumps;
       stop-four-shown = stop-four-shown;
+      accepted-parcels-canonical = accepted-parcels-canonical;
+      written-where-rising = written-where-rising;
+      edges-as-listed = edges-as-listed;
       rows = table;
     }

@@ -13,10 +13,11 @@ use Rattle.machine.specs.Theorems.{UnmadeChangesNothing, StepThenRun}
 use Rattle.checker.specs.Theorems.{AcceptedExactly}
 use Rattle.integrity.specs.Demand.{Demand3, StopFourAtJumps, RunIsItsSteps}
 use Rattle.integrity.specs.Examples.{ProgramsAccepted, CallsMade, StopFourShown}
-use Rattle.parcel.specs.Theorems.{ReadWritten, WrittenRead, ReadAfterWrite, WriteAfterRead}
+use Rattle.parcel.specs.Theorems.{ReadWritten, WrittenRead, WrittenWhereRising, ReadAfterWrite, WriteAfterRead}
 use Rattle.line.specs.Theorems.{PrefixSuffices}
+use Rattle.line.specs.Canonical.{AcceptedParcelsCanonical}
 use Rattle.table.specs.Table.{Table}
-use Rattle.report.specs.Theorems.{KindsAddUp}
+use Rattle.report.specs.Theorems.{KindsAddUp, EdgesAsListed}
 use Rattle.report.specs.Examples.{ReportsShown}
 use Rattle.totals.specs.Theorems.{CountedExactly, TotalsOfList}
 use Rattle.totals.specs.Examples.{TotalsShown}
@@ -29,12 +30,14 @@ pub record Promises : Type 0 where
   -- Parcels, written and read, give back each other: what their bytes hold,
   pub parcel-read-back : ReadWritten
   pub parcel-written-back : WrittenRead
-  -- and the two calls, whatever else stands in the places lent to them.
+  -- and the two calls, whatever else stands in the places lent to them. What was written and is read gives back; what was read and is
+  -- written gives back exactly where the edges of the bytes rise (K3), and is 18 where they don't.
   pub read-after-write : ReadAfterWrite
   pub write-after-read : WriteAfterRead
   -- The first 40,973 bytes of an input decide what `verdict` prints.
   pub prefix-suffices : PrefixSuffices
-  -- Code is accepted exactly where it meets the published conditions, plain (with the clause of K2) or with memory guards.
+  -- Code is accepted exactly where it meets the published conditions, plain (with the clause of K2) or with memory guards, and its edges
+  -- rise (the clause of K3).
   pub accepted-exactly : AcceptedExactly
   -- A run of one step more is a step and then the run;
   pub step-then-run : (t : Technique) (n : ℕ) (memory : List ℕ) (s : State) (k : ℕ) → StepThenRun t n memory s k
@@ -66,5 +69,11 @@ pub record Promises : Type 0 where
   pub stop-four-at-jumps : StopFourAtJumps
   -- a branch past the code is refused, and a jmp that meets stop 4 is shown.
   pub stop-four-shown : (registers : ℕ → ℕ) → StopFourShown registers
+  -- K3: two accepted parcels of one edition with the same code, graph and data are the same bytes;
+  pub accepted-parcels-canonical : AcceptedParcelsCanonical
+  -- a memory and a graph of the right shape are written exactly where the edges rise, and 18 elsewhere;
+  pub written-where-rising : WrittenWhereRising
+  -- and the distinct edges of K1 are, of an accepted program, its edges as listed.
+  pub edges-as-listed : EdgesAsListed
   -- The starred rows of document 01.
   pub rows : Table

@@ -1,4 +1,4 @@
--- A freedom's numbers are small: at most n edges from each of n addresses, and at most n jumps.
+-- A freedom's numbers are small: at most 2,048 edges, and at most n jumps.
 use Prim.Native.Nat.{ℕ, _*_, _≤_}
 use mathlib.Core.Path.{_≡_, refl, ap}
 use mathlib.Core.Bool.{Bool, true, false, cond}
@@ -9,27 +9,21 @@ use lib.ListN.{length}
 use lib.Dec.{eqb}
 use borrow.Author.Tests.{eqb-false}
 use Rattle.lists.proofs.Bools.{clash}
-use Rattle.lists.proofs.Counts.{count-max}
 use Rattle.answers.specs.declared.Verdict.{Verdict}
 use Rattle.isa.specs.declared.Kind.{Kind}
 use Rattle.isa.specs.declared.Technique.{Technique}
-use Rattle.graph.specs.Claim.{isEdge}
-use Rattle.graph.specs.Passes.{Sized}
 use Rattle.checker.specs.Verdicts.{verdictOf}
 use Rattle.parcel.specs.Parcel.{Content, holds, refused, readOf}
 use Rattle.report.specs.declared.Freedom.{Freedom}
-use Rattle.report.specs.Figures.{setSize, wordsOfKind, distinctEdges, freedomBy, numeratorOf, denominatorOf, figuresOf}
+use Rattle.report.specs.Figures.{wordsOfKind, distinctEdges, freedomBy, numeratorOf, denominatorOf, figuresOf}
 use Rattle.report.specs.Reports.{reportBy, reportOf, contentReport}
 use Rattle.report.specs.Theorems.{FreedomFits, Fits, FreedomsFit}
 use Rattle.report.proofs.Held.{held}
 use Rattle.report.proofs.ByKind.{kind-max}
-use Rattle.report.proofs.Sums.{total-max}
+use Rattle.report.specs.Inside.{Held}
+use Rattle.report.proofs.AsListed.{distinct-listed}
 
-size-max : (edges : List ℕ) (n j : ℕ) → setSize edges n j ≤ n
-unfolding setSize
-size-max edges n j = count-max (isEdge edges j) n
-
-module _ (memory : List ℕ) (n : ℕ) (edges : List ℕ) (s : Sized memory n) where
+module _ (memory : List ℕ) (n : ℕ) (edges : List ℕ) (all : Held memory n edges) where
   small : (c d : ℕ) → freedomBy (wordsOfKind memory n Kind.Jmp) n (distinctEdges n edges) ≡ Freedom.Of c d → FreedomFits c d
   small = go (eqb (wordsOfKind memory n Kind.Jmp) 0) refl
     where
@@ -41,7 +35,9 @@ module _ (memory : List ℕ) (n : ℕ) (edges : List ℕ) (s : Sized memory n) w
           let ne = eqb-false (wordsOfKind memory n Kind.Jmp) 0 e in
           let ec : distinctEdges n edges ≡ c = ap numeratorOf h in
           let ed : wordsOfKind memory n Kind.Jmp * n ≡ d = ap denominatorOf h in
-          let low = total-max (setSize edges n) n (size-max edges n) n in
+          let few = distinct-listed edges n (all .within) (all .rises) in
+          let limit = all .within .few in
+          let s = all .sized in
           let square : n * n ≤ 2048 * 2048 = mul-le-mul (s .code-limit) (s .code-limit) in
           let most : wordsOfKind memory n Kind.Jmp * n ≤ n * n = mul-le-mul-right n (kind-max memory n Kind.Jmp) in
           let one : 1 ≤ wordsOfKind memory n Kind.Jmp = omega arith in
@@ -53,7 +49,7 @@ unfolding reportOf figuresOf
 program-fits t memory n edges = go (verdictOf t memory n edges) refl
   where
     go : (v : Verdict) → verdictOf t memory n edges ≡ v → Fits (reportBy v (figuresOf memory n edges))
-    go Verdict.Accepted e c d h = small memory n edges (held t memory n edges e .sized) c d h
+    go Verdict.Accepted e c d h = small memory n edges (held t memory n edges e) c d h
     go (Verdict.Refused why place) e c d h = clash (cc)
 
 content-fits : (t : Technique) (x : Content) → Fits (contentReport t x)

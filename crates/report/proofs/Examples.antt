@@ -12,4 +12,4 @@ use Rattle.report.specs.Examples.{ReportsShown}
 
 pub reports-shown : ReportsShown
 unfolding decodeOf wordOf encodeOf verdictOf firstBroken lowest any count isEdge hasEdge isDestination idOf fits standsAt endsAt insideJumpGuard insideStoreGuard wordsOfKind setSize setsOf highest total figuresOf reportOf
-reports-shown = record { post = refl; repeated = refl; shared = refl; refused = refl; halt = refl }
+reports-shown = record { post = refl; repeated = refl; shared = refl; turned = refl; refused = refl; halt = refl }

@@ -1,4 +1,4 @@
--- What the passes rely on follows from the checker's acceptance: jumps have edges and edges start at jumps (7, 9); the movi of a
+-- What the passes rely on follows from the checker's acceptance: edges rise (18); jumps have edges and edges start at jumps (7, 9); the movi of a
 -- jump's guard has its ID (14); an address is a target of j exactly where its label is j's ID, since labels stand at destinations,
 -- with their set's ID (12), and two sets with an address in common are equal (10).
 use Prim.Native.Nat.{ℕ, _+_, _-_, _%_, _^_, _≤_, _<_}
@@ -128,6 +128,7 @@ module _ (t : Technique) (memory : List ℕ) (n : ℕ) (edges : List ℕ) (e : v
       record {
         sized = s;
         within = within-of memory edges n (s .code-limit) (few-edges (length edges) g) (clean .edges-start) (clean .edges-end);
+        rises = met .edges-rise;
         jumps = jump-edge;
         guarded = λ j l h. guard-movi j l h .0;
         ids = guard-id;

@@ -1,5 +1,6 @@
 pub mod Sums
 pub mod Held
+pub mod AsListed
 pub mod ByKind
 pub mod Sets
 pub mod Reports

@@ -1,57 +1,46 @@
--- Target sets by their IDs: the labels with an ID are the targets of each jump that has it, so the sum over jumps is a sum over IDs,
--- the largest set is the most frequent label, and there are as many sets as different IDs.
-use Prim.Native.Nat.{ℕ, _+_, _-_, _*_, _%_, _^_, _<_, _≤_}
-use mathlib.Core.Path.{_≡_, refl, sym, ap, ap₂, subst, _∙_}
+-- Target sets by their IDs: the labels with an ID are the targets of each jump that has it, so the largest set is the most frequent
+-- label, and there are as many sets as different IDs.
+use Prim.Native.Nat.{ℕ, _+_, _-_, _%_, _^_, _<_, _≤_}
+use mathlib.Core.Path.{_≡_, refl, sym, ap, subst, _∙_}
 use mathlib.Core.Bool.{Bool, true, false, not, cond, _&&_, Bool·beq}
 use mathlib.Core.List.{List}
 use native.Mathlib.Omega.{arith}
 use native.Mathlib.Decide.{ℕ-discrete}
 use native.Mathlib.Nat.{le-antisymm}
-use borrow.Author.Tests.{eq-eqb, ne-eqb, eqb-true, lt-ltb, le-ltb}
-use lib.Dec.{eqb, ltb}
+use borrow.Author.Tests.{eq-eqb, ne-eqb, eqb-true}
+use lib.Dec.{eqb}
 use lib.ListN.{getD}
 use Rattle.lists.specs.Search.{any, count}
 use Rattle.lists.proofs.Bools.{clash, same-bool, true-false, refuted}
 use Rattle.lists.proofs.Search.{lowest-ext, any-ext, any-clean, any-none, any-witness}
-use Rattle.lists.proofs.Counts.{count-ext, count-zero, count-max}
+use Rattle.lists.proofs.Counts.{count-ext, count-zero}
 use Rattle.isa.specs.declared.Kind.{Kind}
 use Rattle.isa.specs.Instructions.{instrAt, isJump}
-use Rattle.graph.specs.Claim.{isEdge, hasEdge, idOf}
+use Rattle.graph.specs.Claim.{edgeCount, isEdge, hasEdge, idOf}
 use Rattle.graph.specs.Rules.{setsDiffer}
 use Rattle.graph.specs.Passes.{Sized}
 use Rattle.graph.proofs.Edges.{has-edge, edge-below, id-below}
 use Rattle.report.specs.declared.Freedom.{Freedom}
 use Rattle.report.specs.declared.passes.Sums.{Sums}
-use Rattle.report.specs.Figures.{wordsOfKind, freedomBy, setSize, isNewSet, setsOf, highest, total, largestOf, distinctEdges, figuresOf}
+use Rattle.report.specs.Figures.{wordsOfKind, freedomBy, setSize, isNewSet, setsOf, highest, largestOf, figuresOf}
 use Rattle.report.specs.Inside.{labelAt, setAt, timesIn, labelsOf, jumpsOf, figuresRead, Readable, Held, Counted, Summable, Summed}
-use Rattle.report.proofs.Sums.{total-ext, highest-ext, highest-above, highest-least, any-count, grouped, times-few, isNew, new-count}
+use Rattle.report.proofs.Sums.{highest-ext, highest-above, highest-least, any-count, isNew, new-count}
+use Rattle.report.proofs.AsListed.{distinct-listed}
 
 -- ---- all figures, from what the passes answer
 pub summable : (memory : List ℕ) (n : ℕ) {kinds labels jumps : List ℕ} → Sized memory n → Counted memory n n kinds labels jumps
     → Summable labels jumps n
-unfolding timesIn
-summable memory n {kinds} {labels} s c =
-    record {
-      limit = s .code-limit;
-      labels-size = c .labels-counted .size;
-      jumps-size = c .jumps-counted .size;
-      few-labels = λ k l.
-          let same = total-ext (λ i. getD labels i 0) (timesIn (labelAt memory n) n) k (λ i q. c .labels-counted .each i (omega arith)) in
-          omega (arith, times-few (labelAt memory n) n k, same, s .code-limit);
-      few-jumps = λ k l. omega (arith, c .jumps-counted .each k l, count-max (λ i. eqb (setAt memory n i) k) n, s .code-limit);
-    }
+summable memory n s c =
+    record { limit = s .code-limit; labels-size = c .labels-counted .size; jumps-size = c .jumps-counted .size }
 
-pub figures-read : (memory : List ℕ) (n : ℕ) {kinds labels jumps : List ℕ} {sums : Sums} {freedom : Freedom}
-    → Counted memory n n kinds labels jumps → Summed labels jumps n sums → freedom ≡ freedomBy (getD kinds 6 0) n (sums .edges)
-    → record { kinds = kinds; sets = sums .sets; largest = sums .largest; freedom = freedom } ≡ figuresRead memory n
-figures-read memory n {kinds} {labels} {jumps} {sums} {freedom} c t f =
-    let l = c .labels-counted .each in
-    let edges = t .edges ∙ total-ext _ _ n (λ s q. ap₂ (λ (x y : ℕ). x * y) (l s q) (c .jumps-counted .each s q)) in
-    let largest = t .largest ∙ highest-ext _ _ n l in
+pub figures-read : (memory : List ℕ) (n listed : ℕ) {kinds labels jumps : List ℕ} {sums : Sums} {freedom : Freedom}
+    → Counted memory n n kinds labels jumps → Summed labels jumps n sums → freedom ≡ freedomBy (getD kinds 6 0) n listed
+    → record { kinds = kinds; sets = sums .sets; largest = sums .largest; freedom = freedom } ≡ figuresRead memory n listed
+figures-read memory n listed {kinds} {labels} {jumps} {sums} {freedom} c t f =
+    let largest = t .largest ∙ highest-ext _ _ n (c .labels-counted .each) in
     let sets = t .sets ∙ count-ext _ _ n (λ s q. ap (λ (x : ℕ). not (eqb x 0)) (c .jumps-counted .each s q)) in
     let several : getD kinds 6 0 ≡ wordsOfKind memory n Kind.Jmp = ap (λ (xs : List ℕ). getD xs 6 0) (c .kinds-counted) in
-    let same : freedom ≡ freedomBy (wordsOfKind memory n Kind.Jmp) n (total (λ s. labelsOf memory n s * jumpsOf memory n s) n) =
-    f ∙ ap₂ (λ (j e : ℕ). freedomBy j n e) several edges in
+    let same : freedom ≡ freedomBy (wordsOfKind memory n Kind.Jmp) n listed = f ∙ ap (λ (j : ℕ). freedomBy j n listed) several in
     rw (c .kinds-counted, sets, largest, same)
 
 -- the ID of the set of j, n where j is no jump; and one more than the ID, 0 where j is none
@@ -76,7 +65,7 @@ module _ (memory : List ℕ) (n : ℕ) (edges : List ℕ) (h : Held memory n edg
   id-under : (j : ℕ) → hasEdge edges j ≡ true → idOf edges n j < n
   id-under = id-below edges n (h .within)
 
-  -- ---- edges: each jump has as many as there are labels with its ID
+  -- ---- the size of a set: a jump has as many targets as there are labels with its ID
   size-none : (j : ℕ) → hasEdge edges j ≡ false → 0 ≡ setSize edges n j
   unfolding setSize
   size-none j e = count-zero (isEdge edges j) n (λ t q. refuted _ (λ x. true-false (has-edge edges n j t x) e))
@@ -84,17 +73,6 @@ module _ (memory : List ℕ) (n : ℕ) (edges : List ℕ) (h : Held memory n edg
   size-some : (j : ℕ) → hasEdge edges j ≡ true → setSize edges n j ≡ labelsOf memory n (idOf edges n j)
   unfolding setSize timesIn
   size-some j e = count-ext _ _ n (λ t q. h .labels j t e q)
-
-  size-of : (j : ℕ) → j < n → setSize edges n j ≡ cond (ltb (setAt memory n j) n) (labelsOf memory n (setAt memory n j)) 0
-  size-of j l = go (hasEdge edges j) refl ∙ sym (ap (λ (x : ℕ). cond (ltb x n) (labelsOf memory n x) 0) (set-is j l))
-    where
-      go : (b : Bool) → hasEdge edges j ≡ b
-          → setSize edges n j ≡ cond (ltb (cond b (idOf edges n j) n) n) (labelsOf memory n (cond b (idOf edges n j) n)) 0
-      go true e = size-some j e ∙ sym (ap (λ (b : Bool). cond b (labelsOf memory n (idOf edges n j)) 0) (lt-ltb _ _ (id-under j e)))
-      go false e = sym (size-none j e) ∙ sym (ap (λ (b : Bool). cond b (labelsOf memory n n) 0) (le-ltb n n (omega arith)))
-
-  edges-are : total (λ s. labelsOf memory n s * jumpsOf memory n s) n ≡ distinctEdges n edges
-  edges-are = sym (total-ext _ _ n size-of ∙ grouped (setAt memory n) (labelsOf memory n) n n)
 
   -- ---- the largest set: a label that occurs has the ID of a jump
   jump-of : (s : ℕ) → s < n → (labelsOf memory n s ≡ 0 → ⊥) → (j : ℕ) × (j < n) × (hasEdge edges j ≡ true) × (idOf edges n j ≡ s)
@@ -206,6 +184,6 @@ module _ (memory : List ℕ) (n : ℕ) (edges : List ℕ) (h : Held memory n edg
       ∙ count-ext _ _ n occurs)
 
   -- so the passes read the figures
-  pub figures-are : figuresRead memory n ≡ figuresOf memory n edges
+  pub figures-are : figuresRead memory n (edgeCount edges) ≡ figuresOf memory n edges
   unfolding figuresOf
-  figures-are = rw (sets-are, largest-is, edges-are)
+  figures-are = rw (sets-are, largest-is, distinct-listed edges n (h .within) (h .rises))

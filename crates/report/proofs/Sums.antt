@@ -1,5 +1,5 @@
--- Sums, highest numbers and counts over the numbers below a bound: one more at a time, and by groups of equal numbers.
-use Prim.Native.Nat.{ℕ, zero, suc, max, _+_, _-_, _*_, _<_, _≤_}
+-- Sums, highest numbers and counts over the numbers below a bound: one more at a time, and counts by number.
+use Prim.Native.Nat.{ℕ, zero, suc, max, _+_, _-_, _<_, _≤_}
 use mathlib.Core.Path.{_≡_, refl, sym, ap, ap₂, _∙_}
 use mathlib.Core.Bool.{Bool, true, false, not, cond, _&&_, _||_}
 use mathlib.Core.List.{List}
@@ -7,27 +7,18 @@ use mathlib.Core.Logic.{⊎-elim}
 use native.Mathlib.Omega.{arith}
 use native.Mathlib.Numerals.{add-one}
 use native.Mathlib.Decide.{ℕ-discrete}
-use native.Mathlib.Nat.{mul-add, mul-le-mul, le-refl, le-trans, max-le, le-max-left, le-max-right, not-suc-le-zero, eq-or-lt-of-le, le-of-suc-le-suc}
-use borrow.Author.Tests.{eq-eqb, ne-eqb, lt-ltb, le-ltb, ltb-true, ltb-false}
+use native.Mathlib.Nat.{le-trans, max-le, le-max-left, le-max-right, not-suc-le-zero, eq-or-lt-of-le, le-of-suc-le-suc}
+use borrow.Author.Tests.{eq-eqb, ne-eqb, ltb-true, ltb-false}
 use lib.Dec.{eqb, ltb}
 use lib.ListN.{getD, set}
 use Rattle.lists.specs.Search.{any, bit, count}
 use Rattle.lists.specs.Tables.{Table}
-use Rattle.lists.proofs.Bools.{same-bool}
 use Rattle.lists.proofs.Counts.{count-zero, count-ext, count-max, count-flip}
 use Rattle.lists.proofs.Tables.{table-as, table-set}
 use Rattle.report.specs.Figures.{highest, total}
 use Rattle.report.specs.Inside.{timesIn, oneMore}
 
 -- ---- one more at a time
-pub total-none : (f : ℕ → ℕ) → 0 ≡ total f 0
-unfolding total
-total-none f = refl
-
-pub total-more : (f : ℕ → ℕ) (k : ℕ) → total f (k + 1) ≡ f k + total f k
-unfolding total
-total-more f k = rw add-one
-
 pub highest-none : (f : ℕ → ℕ) → 0 ≡ highest f 0
 unfolding highest
 highest-none f = refl
@@ -55,19 +46,6 @@ unfolding highest
 highest-ext f g zero h = refl
 highest-ext f g (suc n) h = rw (highest-ext f g n (λ k l. h k (omega arith)), h n (omega arith))
 
-pub total-max : (f : ℕ → ℕ) (b : ℕ) → ((k : ℕ) → f k ≤ b) → (n : ℕ) → total f n ≤ n * b
-unfolding total
-total-max f b h zero = omega arith
-total-max f b h (suc n) = let i = total-max f b h n in let k = h n in omega arith
-
-pub products-low : (f g : ℕ → ℕ) (n : ℕ) → ((k : ℕ) → k < n → g k ≤ 2048) → total (λ k. f k * g k) n ≤ total f n * 2048
-unfolding total
-products-low f g zero h = omega arith
-products-low f g (suc n) h =
-    let i = products-low f g n (λ k l. h k (omega arith)) in
-    let p : f n * g n ≤ f n * 2048 = mul-le-mul (le-refl (f n)) (h n (omega arith)) in
-    omega arith
-
 pub highest-above : (f : ℕ → ℕ) (n k : ℕ) → k < n → f k ≤ highest f n
 unfolding highest
 highest-above f zero k l = absurd (not-suc-le-zero l)
@@ -92,55 +70,27 @@ any-count f (suc n) = go (any-count f n) (f n)
     go i true = sym (ap not (ne-eqb (1 + count f n) 0 (λ e. omega arith)))
     go i false = let same : count f n ≡ bit false + count f n = omega arith in i ∙ ap (λ (x : ℕ). not (eqb x 0)) same
 
--- ---- numbers f 0 to f (a - 1), grouped: how often each number below n occurs among them
-total-zero : (f : ℕ → ℕ) (n : ℕ) → ((k : ℕ) → f k ≡ 0) → total f n ≡ 0
+-- ---- sums of 0, of sums, and with one member
+pub total-zero : (f : ℕ → ℕ) (n : ℕ) → ((k : ℕ) → k < n → f k ≡ 0) → total f n ≡ 0
 unfolding total
 total-zero f zero h = refl
-total-zero f (suc n) h = let i = total-zero f n h in let k = h n in omega arith
+total-zero f (suc n) h = let i = total-zero f n (λ k l. h k (omega arith)) in let k = h n (omega arith) in omega arith
 
-total-add : (f g : ℕ → ℕ) (n : ℕ) → total (λ k. f k + g k) n ≡ total f n + total g n
+pub total-add : (f g : ℕ → ℕ) (n : ℕ) → total (λ k. f k + g k) n ≡ total f n + total g n
 unfolding total
 total-add f g zero = refl
 total-add f g (suc n) = let i = total-add f g n in omega arith
 
-total-pick : (w : ℕ → ℕ) (x n : ℕ) → total (λ s. w s * bit (eqb x s)) n ≡ cond (ltb x n) (w x) 0
+pub total-one : (x n : ℕ) → x < n → total (λ s. bit (eqb x s)) n ≡ 1
 unfolding total
-total-pick w x zero = rw (le-ltb x 0 (omega arith))
-total-pick w x (suc n) = go (total-pick w x n) (ℕ-discrete x n)
-  where
-    later : (x ≡ n → ⊥) → ltb x n ≡ ltb x (suc n)
-    later q =
-        same-bool _ _ (λ t. let l = ltb-true x n t in lt-ltb x (suc n) (omega arith))
-        (λ t. lt-ltb x n (⊎-elim (λ e. absurd (q e)) (λ l. l) (eq-or-lt-of-le (le-of-suc-le-suc (ltb-true x (suc n) t)))))
+total-one x zero l = absurd (not-suc-le-zero l)
+total-one x (suc n) l =
+    ⊎-elim
+    (λ e. let none = total-zero (λ s. bit (eqb x s)) n (λ k q. ap bit (ne-eqb x k (λ z. omega arith))) in rw (eq-eqb x n e) (omega arith))
+    (λ q. let one = total-one x n q in rw (ne-eqb x n (λ z. omega arith)) (omega arith))
+    (eq-or-lt-of-le (le-of-suc-le-suc l))
 
-    go : total (λ s. w s * bit (eqb x s)) n ≡ cond (ltb x n) (w x) 0 → Dec (x ≡ n)
-        → w n * bit (eqb x n) + total (λ s. w s * bit (eqb x s)) n ≡ cond (ltb x (suc n)) (w x) 0
-    go i (yes p) =
-        let none : total (λ s. w s * bit (eqb x s)) n ≡ 0 = i ∙ ap (λ (b : Bool). cond b (w x) 0) (le-ltb x n (omega arith)) in
-        let same : w n ≡ w x = ap w (sym p) in
-        rw (eq-eqb x n p, lt-ltb x (suc n) (omega arith)) (omega (arith, none, same))
-    go i (no p) =
-        let rest : total (λ s. w s * bit (eqb x s)) n ≡ cond (ltb x (suc n)) (w x) 0 = i ∙ ap (λ (b : Bool). cond b (w x) 0) (later p) in
-        rw (ne-eqb x n p) (omega (arith, rest))
-
-pub grouped : (f w : ℕ → ℕ) (n a : ℕ) → total (λ j. cond (ltb (f j) n) (w (f j)) 0) a ≡ total (λ s. w s * timesIn f a s) n
-unfolding total timesIn count
-grouped f w n zero = sym (total-zero (λ s. w s * 0) n (λ s. omega arith))
-grouped f w n (suc a) =
-    ap₂ (λ (x y : ℕ). x + y) (sym (total-pick w (f a) n)) (grouped f w n a)
-    ∙ sym (total-add (λ s. w s * bit (eqb (f a) s)) (λ s. w s * timesIn f a s) n)
-    ∙ total-ext _ _ n (λ s l. sym (mul-add (w s) (bit (eqb (f a) s)) (timesIn f a s)))
-
-pub times-few : (f : ℕ → ℕ) (a n : ℕ) → total (timesIn f a) n ≤ a
-times-few f a n =
-    let one : total (λ s. 1 * timesIn f a s) n ≡ total (timesIn f a) n = total-ext _ _ n (λ s l. omega arith) in
-    let low = total-max (λ j. cond (ltb (f j) n) 1 0) 1 (λ k. small (ltb (f k) n)) a in
-    omega (arith, grouped f (λ _. 1) n a, one)
-  where
-    small : (b : Bool) → cond b 1 0 ≤ 1
-    small true = omega arith
-    small false = omega arith
-
+-- ---- counts by number
 -- an array of such counts: one number more
 pub times-step : (f : ℕ → ℕ) (xs : List ℕ) (n a s : ℕ) {xs′ : List ℕ} → n ≤ 2048 → Table xs n (timesIn f a) → s ≡ f a
     → xs′ ≡ oneMore xs n s → Table xs′ n (timesIn f (a + 1))

@@ -58,10 +58,12 @@ acceptedWith figures = record { verdict = Verdict.Accepted; figures = figures }
 
 pub record ReportsShown : Type 0 where
   pub post : reportOf Technique.Plain postCode 9 postEdges ≡ acceptedWith postFigures
-  -- its edge listed twice
-  pub repeated : reportOf Technique.Plain postCode 9 (postEdges ++ postEdges) ≡ acceptedWith postFigures
+  -- its edge listed twice: 18 at edge 1
+  pub repeated : reportOf Technique.Plain postCode 9 (postEdges ++ postEdges) ≡ refusedReport Refusal.EdgeNotRising (Place.Edge 1)
   -- equal sets counted once
   pub shared : reportOf Technique.Plain sharedCode 14 (5 ∷ 12 ∷ 11 ∷ 12 ∷ []) ≡ acceptedWith sharedFigures
+  -- the same graph in another sequence: 18 at edge 1
+  pub turned : reportOf Technique.Plain sharedCode 14 (11 ∷ 12 ∷ 5 ∷ 12 ∷ []) ≡ refusedReport Refusal.EdgeNotRising (Place.Edge 1)
   -- the post program with memory guards is refused: 14 at 6
   pub refused : reportOf Technique.MemoryGuards postCode 9 postEdges ≡ refusedReport Refusal.JumpUnguarded (Place.Address 6)
   -- no jumps

@@ -23,7 +23,7 @@ wordsOfKind memory n kind = count (λ a. isKind kind (instrAt memory a)) n
 abbrev pub kindsOf : List ℕ → ℕ → List ℕ
 kindsOf memory n = map (wordsOfKind memory n) tableKinds
 
--- how many addresses of code the target set of j has: a repeated edge counts once
+-- how many addresses of code the target set of j has
 unfoldable pub setSize : List ℕ → ℕ → ℕ → ℕ
 setSize edges n j = count (isEdge edges j) n
 
@@ -49,7 +49,8 @@ total f (suc n) = f n + total f n
 abbrev pub largestOf : ℕ → List ℕ → ℕ
 largestOf n edges = highest (setSize edges n) n
 
--- "the distinct edges": those that start at 0, and at 1, and so on
+-- "the distinct edges": those that start at 0, and at 1, and so on. Of an accepted program they are its edges as listed
+-- (`EdgesAsListed` in `Theorems.antt`).
 abbrev pub distinctEdges : ℕ → List ℕ → ℕ
 distinctEdges n edges = total (setSize edges n) n
 

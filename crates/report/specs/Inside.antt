@@ -1,5 +1,5 @@
 -- What the private passes of this crate leave in their arrays and rely on. Nothing that is promised outside cites these.
-use Prim.Native.Nat.{ℕ, _+_, _-_, _*_, _%_, _^_, _<_, _≤_}
+use Prim.Native.Nat.{ℕ, _+_, _-_, _%_, _^_, _<_, _≤_}
 use mathlib.Core.Path.{_≡_}
 use mathlib.Core.Bool.{true, not, cond}
 use mathlib.Core.Option.{Option, none, some}
@@ -12,9 +12,10 @@ use Rattle.isa.specs.declared.Kind.{Kind}
 use Rattle.isa.specs.Instructions.{instrAt, isJump, labelNumber}
 use Rattle.graph.specs.Claim.{isEdge, hasEdge, idOf}
 use Rattle.graph.specs.Passes.{Sized, Within}
+use Rattle.rising.specs.Rising.{Rising}
 use Rattle.report.specs.declared.passes.Sums.{Sums}
 use Rattle.report.specs.declared.Figures.{Figures}
-use Rattle.report.specs.Figures.{wordsOfKind, kindsOf, highest, total, freedomBy}
+use Rattle.report.specs.Figures.{wordsOfKind, kindsOf, highest, freedomBy}
 
 -- a kind's place in `tableKinds`
 abbrev pub rowOf : Kind → ℕ
@@ -52,14 +53,14 @@ labelsOf memory n = timesIn (labelAt memory n) n
 abbrev pub jumpsOf : List ℕ → ℕ → ℕ → ℕ
 jumpsOf memory n = timesIn (setAt memory n) n
 
--- the figures as the passes read them off the words
-abbrev pub figuresRead : List ℕ → ℕ → Figures
-figuresRead memory n =
+-- the figures as the passes read them off the words, with so many edges listed
+abbrev pub figuresRead : List ℕ → ℕ → ℕ → Figures
+figuresRead memory n listed =
     record {
       kinds = kindsOf memory n;
       sets = count (λ s. not (eqb (jumpsOf memory n s) 0)) n;
       largest = highest (labelsOf memory n) n;
-      freedom = freedomBy (wordsOfKind memory n Kind.Jmp) n (total (λ s. labelsOf memory n s * jumpsOf memory n s) n);
+      freedom = freedomBy (wordsOfKind memory n Kind.Jmp) n listed;
     }
 
 -- what they need: a jump stands after its guard
@@ -67,11 +68,12 @@ pub record Readable (memory : List ℕ) (n : ℕ) : Type 0 where
   pub sized : Sized memory n
   pub guarded : (j : ℕ) → j < n → isJump (instrAt memory j) ≡ true → 3 ≤ j
 
--- what the checker's acceptance says of them: jumps are the addresses with an edge, each guard holds its jump's ID, the targets of a
+-- what the checker's acceptance says of them: edges rise, jumps are the addresses with an edge, each guard holds its jump's ID, the targets of a
 -- jump are the labels with its ID, and each label has the ID of some jump
 pub record Held (memory : List ℕ) (n : ℕ) (edges : List ℕ) : Type 0 where
   pub sized : Sized memory n
   pub within : Within edges n
+  pub rises : Rising edges
   pub jumps : (j : ℕ) → j < n → isJump (instrAt memory j) ≡ hasEdge edges j
   pub guarded : (j : ℕ) → j < n → isJump (instrAt memory j) ≡ true → 3 ≤ j
   pub ids : (j : ℕ) → j < n → isJump (instrAt memory j) ≡ true → getD memory (j - 3) 0 % 2 ^ 32 ≡ idOf edges n j
@@ -88,15 +90,12 @@ pub record Counted (memory : List ℕ) (n a : ℕ) (kinds labels jumps : List �
   pub labels-counted : Table labels n (timesIn (labelAt memory n) a)
   pub jumps-counted : Table jumps n (timesIn (setAt memory n) a)
 
--- counts that can be added up in 32 bits: at most 2,048 labels, and at most 2,048 jumps of each ID
+-- counts by number, the first n of 2,048
 pub record Summable (labels jumps : List ℕ) (n : ℕ) : Type 0 where
   pub limit : n ≤ 2048
   pub labels-size : length labels ≡ 2048
   pub jumps-size : length jumps ≡ 2048
-  pub few-labels : (s : ℕ) → s ≤ n → total (λ k. getD labels k 0) s ≤ 2048
-  pub few-jumps : (s : ℕ) → s < n → getD jumps s 0 ≤ 2048
 
 pub record Summed (labels jumps : List ℕ) (n : ℕ) (r : Sums) : Type 0 where
-  pub edges : r .edges ≡ total (λ s. getD labels s 0 * getD jumps s 0) n
   pub largest : r .largest ≡ highest (λ s. getD labels s 0) n
   pub sets : r .sets ≡ count (λ s. not (eqb (getD jumps s 0) 0)) n

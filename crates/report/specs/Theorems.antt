@@ -1,11 +1,14 @@
--- What is proved of the figures. `proofs/ByKind.antt` and `proofs/Bounds.antt` have the proofs.
+-- What is proved of the figures. `proofs/ByKind.antt`, `proofs/AsListed.antt` and `proofs/Bounds.antt` have the proofs.
 use Prim.Native.Nat.{ℕ, _+_, _^_, _≤_, _<_}
 use mathlib.Core.Path.{_≡_}
 use mathlib.Core.List.{List, [], _∷_}
 use Rattle.report.specs.declared.Answer.{Answer}
 use Rattle.report.specs.declared.Freedom.{Freedom}
+use Rattle.answers.specs.declared.Verdict.{Verdict}
 use Rattle.isa.specs.declared.Technique.{Technique}
-use Rattle.report.specs.Figures.{kindsOf}
+use Rattle.graph.specs.Claim.{edgeCount}
+use Rattle.checker.specs.Verdicts.{verdictOf}
+use Rattle.report.specs.Figures.{kindsOf, distinctEdges}
 use Rattle.report.specs.Reports.{reportOf, parcelReport}
 
 unfoldable pub sum : List ℕ → ℕ
@@ -15,6 +18,12 @@ sum (x ∷ xs) = x + sum xs
 -- "The kinds must add up to n."
 abbrev pub KindsAddUp : Type 0
 KindsAddUp = (memory : List ℕ) (n : ℕ) → sum (kindsOf memory n) ≡ n
+
+-- "the distinct edges" of an accepted program are its edges as listed, since by K3 of document 02 none repeats
+abbrev pub EdgesAsListed : Type 0
+EdgesAsListed =
+    (t : Technique) (memory : List ℕ) (n : ℕ) (edges : List ℕ) → verdictOf t memory n edges ≡ Verdict.Accepted
+    → distinctEdges n edges ≡ edgeCount edges
 
 -- a freedom's two numbers fit into 32 bits each, and the second is not 0
 pub record FreedomFits (edges possible : ℕ) : Type 0 where

@@ -37,7 +37,7 @@ pub fn report(technique: Technique, memory: &[u64], n: usize, edges: &[u16]) -> 
 {
     match checker::check(technique, memory, n, edges) {
         Verdict::Accepted => {
-            let figures = passes::figures(memory, n);
+            let figures = passes::figures(memory, n, edges.len() / 2);
             Answer {
                 verdict: Verdict::Accepted,
                 figures: figures,

@@ -3,7 +3,7 @@
 // and the guard of each jump holds its set's ID, in the movi three words before the jmp.
 ghost use mathlib.Core.Path.{_≡_};
 ghost use mathlib.Core.Bool.{not};
-ghost use Prim.Native.Nat.{max, _+_, _*_, _<_, _≤_};
+ghost use Prim.Native.Nat.{max, _+_, _<_, _≤_};
 ghost use lib.Dec.{eqb};
 ghost use lib.ListN.{length, getD};
 ghost use Rattle.lists.specs.Search.{bit};
@@ -17,22 +17,22 @@ use isa::Kind;
 use isa::is_a;
 use isa::kind_of_word;
 
-// The edges of the jumps, the size of their largest target set, and how many sets they have.
+// The size of the largest target set of the jumps, and how many sets they have.
 struct Sums {
-    edges: u32,
     largest: u16,
     sets: u16,
 }
 
-pub(crate) fn figures(memory: &[u64], n: usize) -> Figures
-    requires { ⌜ Readable (now memory) n ⌝ }
-    ensures { λ r. ⌜ r ≡ figuresRead (now (memory .entry)) n ⌝ }
+// The edges of an accepted program are distinct as they are listed.
+pub(crate) fn figures(memory: &[u64], n: usize, listed: usize) -> Figures
+    requires { ⌜ Readable (now memory) n × (listed ≤ 65535) ⌝ }
+    ensures { λ r. ⌜ r ≡ figuresRead (now (memory .entry)) n listed ⌝ }
 {
     let mut labels = [0u16; 2048];
     let mut jumps = [0u16; 2048];
     let kinds = count_words(memory, n, &mut labels, &mut jumps);
     let sums = sum_up(&labels, &jumps, n);
-    let freedom = freedom_of(kinds[6], n, sums.edges);
+    let freedom = freedom_of(kinds[6], n, listed);
     Figures {
         kinds: kinds,
         sets: sums.sets,
@@ -124,34 +124,25 @@ fn count_at(xs: &mut [u16; 2048], n: usize, s: usize)
     xs[s] = v;
 }
 
-// A set has as many targets as there are labels with its ID, and each of the jumps that share it has an edge to each of them.
+// A set has as many targets as there are labels with its ID.
 fn sum_up(labels: &[u16; 2048], jumps: &[u16; 2048], n: usize) -> Sums
     requires { ⌜ Summable (now labels) (now jumps) n ⌝ }
     ensures { λ r. ⌜ Summed (now (labels .entry)) (now (jumps .entry)) n r ⌝ }
 {
-    let mut edges = 0u32;
     let mut largest = 0u16;
     let mut sets = 0u16;
     let mut s = 0;
     while s < n {
         let targets = labels[s];
         let sharing = jumps[s];
-        edges = edges + product(targets, sharing);
         largest = higher(targets, largest);
         sets = sets + some(sharing);
         s += 1;
     }
     Sums {
-        edges: edges,
         largest: largest,
         sets: sets,
     }
-}
-
-fn product(x: u16, y: u16) -> u32
-    ensures { λ r. ⌜ r ≡ x * y ⌝ }
-{
-    x as u32 * y as u32
 }
 
 // 1 unless x is 0.
@@ -167,12 +158,12 @@ fn higher(a: u16, b: u16) -> u16
     if a < b { b } else { a }
 }
 
-fn freedom_of(jumps: u16, n: usize, edges: u32) -> Freedom
-    requires { ⌜ n ≤ 2048 ⌝ }
+fn freedom_of(jumps: u16, n: usize, edges: usize) -> Freedom
+    requires { ⌜ (n ≤ 2048) × (edges ≤ 65535) ⌝ }
     ensures { λ r. ⌜ r ≡ freedomBy jumps n edges ⌝ }
 {
     if jumps == 0 {
         return Freedom::NoJumps;
     }
-    Freedom::Of(edges, jumps as u32 * n as u32)
+    Freedom::Of(edges as u32, jumps as u32 * n as u32)
 }

@@ -285,7 +285,7 @@ fn accepted_checks(table: &mut Table) -> Vec<Growth> {
 }
 
 fn refused_checks(table: &mut Table) {
-    let plain = [Fault::LastEdge, Fault::LastSets, Fault::LastJump, Fault::LastBranch].map(|fault| (Technique::Plain, fault));
+    let plain = [Fault::LastEdge, Fault::LastRepeat, Fault::LastSets, Fault::LastJump, Fault::LastBranch].map(|fault| (Technique::Plain, fault));
     let guards = [Fault::LastJump, Fault::LastBranch].map(|fault| (Technique::MemoryGuards, fault));
     for (technique, fault) in plain.into_iter().chain(guards) {
         for n in [64, 2048] {

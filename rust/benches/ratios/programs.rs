@@ -64,7 +64,7 @@ impl Blocks {
     }
 }
 
-/// An accepted program of n words and 64 data words; eight blocks share a target set.
+/// An accepted program of n words and 64 data words; eight blocks share a target set. Its edges rise as they come.
 pub fn accepted(technique: Technique, n: usize) -> Program {
     let guards = technique == Technique::MemoryGuards;
     let blocks = Blocks::of(technique, n);
@@ -105,6 +105,8 @@ pub fn accepted(technique: Technique, n: usize) -> Program {
 pub enum Fault {
     /// 7: the last edge starts at no jmp
     LastEdge,
+    /// 18: the last edge is the one before it again
+    LastRepeat,
     /// 10: the last jump's only target is one of the two that the jump before it has
     LastSets,
     /// 14: the last jump's guard loads from the next word
@@ -117,6 +119,7 @@ impl Fault {
     pub fn told(self) -> &'static str {
         match self {
             Fault::LastEdge => "refused 7 at the last edge",
+            Fault::LastRepeat => "refused 18 at the last edge",
             Fault::LastSets => "refused 10 at the last jump but one",
             Fault::LastJump => "refused 14 at the last jump",
             Fault::LastBranch => "refused 15 at the last bgt",
@@ -134,6 +137,11 @@ pub fn refused(technique: Technique, n: usize, fault: Fault) -> (Program, Answer
             let edge = program.edges.len() / 2 - 1;
             program.edges[2 * edge] = 0;
             (7, 1, edge as u64)
+        }
+        Fault::LastRepeat => {
+            let end = program.edges.len();
+            program.edges.copy_within(end - 4..end - 2, end - 2);
+            (18, 1, end as u64 / 2 - 1)
         }
         Fault::LastSets => {
             program.edges = part_last_sets(&program.edges, blocks);

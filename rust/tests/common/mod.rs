@@ -1,7 +1,8 @@
 //! Random inputs with fixed seeds: words, and programs that are accepted before they are damaged.
 #![allow(dead_code)]
 
-use crate::reference::{encode, write_parcel, Op, Technique};
+use crate::reference::{encode, shaped, Op, Technique};
+use std::collections::BTreeSet;
 
 /// a technique's number, as C has it
 pub fn number_of(technique: Technique) -> u8 {
@@ -192,14 +193,9 @@ pub fn accepted(r: &mut Random, technique: Technique, n: usize, d: usize) -> Pro
     }
     code.push(Op::Illegal);
     assert_eq!(code.len(), n);
-    while !pairs.is_empty() && pairs.len() < 2048 && r.chance(3) {
-        pairs.push(r.pick(&pairs));
-    }
-    // too many edges: the claim keeps the first sets alone, and the program is refused
+    assert!(pairs.is_sorted_by(|a, b| a < b));
+    // too many edges: the claim keeps those of the first jumps alone, and the program is refused
     pairs.truncate(2048);
-    for i in (1..pairs.len()).rev() {
-        pairs.swap(i, r.below(i + 1));
-    }
     let mut memory: Vec<u64> = code.into_iter().map(encode).collect();
     memory.extend((0..d).map(|_| r.odd_number()));
     Program { memory, n, edges: pairs.into_iter().flat_map(|(j, t)| [j as u16, t as u16]).collect() }
@@ -230,7 +226,28 @@ pub fn without_jumps(r: &mut Random, technique: Technique, n: usize, d: usize) -
     Program { memory, n, edges: Vec::new() }
 }
 
-/// Lists one to eight edges again, at any place of the list, as far as there is room: an accepted program stays accepted.
+/// Puts the edges into rising sequence; repeated ones stay. A number at the end that is no pair stays there.
+pub fn sort_edges(edges: &mut [u16]) {
+    let mut pairs: Vec<[u16; 2]> = edges.chunks_exact(2).map(|e| [e[0], e[1]]).collect();
+    pairs.sort();
+    for (to, pair) in edges.chunks_exact_mut(2).zip(pairs) {
+        to.copy_from_slice(&pair);
+    }
+}
+
+/// Random edges, rising and without repeats.
+pub fn rising_edges(r: &mut Random, pairs: usize) -> Vec<u16> {
+    let mut set = BTreeSet::new();
+    let small = r.chance(2);
+    while set.len() < pairs {
+        // few different jumps, so that many edges differ by their targets alone
+        let jump = if small { r.below(1 + pairs / 4) as u16 } else { r.word() as u16 };
+        set.insert([jump, r.word() as u16]);
+    }
+    set.into_iter().flatten().collect()
+}
+
+/// Lists one to eight edges again, at any place of the list, as far as there is room: the edges then fall or repeat somewhere.
 pub fn repeat_edges(r: &mut Random, p: &mut Program) {
     for _ in 0..1 + r.below(8) {
         let pairs = p.edges.len() / 2;
@@ -243,11 +260,19 @@ pub fn repeat_edges(r: &mut Random, p: &mut Program) {
     }
 }
 
-/// The parcel of a program, or none where its shape has no parcel.
+/// The parcel of a program with its edges as they are, rising or not, or none where its shape has no parcel.
 pub fn parcel_of(p: &Program) -> Option<Vec<u8>> {
-    let mut parcel = vec![0; 40_972];
-    let size = write_parcel(&p.memory, p.n, &p.edges, &mut parcel).ok()?;
-    parcel.truncate(size);
+    if !shaped(p.memory.len(), p.n) || p.edges.len() % 2 != 0 || p.edges.len() > 4096 {
+        return None;
+    }
+    let (code, data) = p.memory.split_at(p.n);
+    let count = |items: usize| (items as u32).to_le_bytes();
+    let mut parcel = count(p.n).to_vec();
+    parcel.extend(code.iter().flat_map(|word| word.to_le_bytes()));
+    parcel.extend(count(p.edges.len() / 2));
+    parcel.extend(p.edges.iter().flat_map(|number| number.to_le_bytes()));
+    parcel.extend(count(data.len()));
+    parcel.extend(data.iter().flat_map(|word| word.to_le_bytes()));
     Some(parcel)
 }
 
@@ -266,7 +291,8 @@ pub fn damage(r: &mut Random, p: &mut Program) {
     let at = r.below(n);
     let claimed = p.edges.len() >= 2;
     let edge = if claimed { r.below(p.edges.len() / 2) * 2 } else { 0 };
-    match r.below(14) {
+    let before = p.edges.clone();
+    match r.below(15) {
         0 => p.memory[at] ^= 1 << r.below(64),
         1 => p.memory[at] = r.instruction_word(),
         2 => p.memory[at] = encode(Op::Label(r.below(n) as u32)),
@@ -293,7 +319,20 @@ pub fn damage(r: &mut Random, p: &mut Program) {
         13 if p.memory.len() > p.n => {
             p.memory.pop();
         }
+        14 if claimed => {
+            // two edges change places, or one becomes another again
+            let other = r.below(p.edges.len() / 2) * 2;
+            let (one, two) = ([p.edges[edge], p.edges[edge + 1]], [p.edges[other], p.edges[other + 1]]);
+            p.edges[other..other + 2].copy_from_slice(&one);
+            if !r.chance(3) {
+                p.edges[edge..edge + 2].copy_from_slice(&two);
+            }
+            return;
+        }
         _ => p.memory[at] = encode(Op::Jmp(r.below(2) as u8)),
+    }
+    if p.edges != before && !r.chance(4) {
+        sort_edges(&mut p.edges);
     }
 }
 

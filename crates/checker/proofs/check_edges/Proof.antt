@@ -15,22 +15,30 @@ check-edges-spec =
     (λ c. sym (broken _ _ _ (c .before .first-from-no-jump .ensures) (c .if1 .taken)))
     (λ c κs. search needs)
     (λ c.
-    let first-from-no-jump = c .before .before .before .first-from-no-jump in
-    let if1 = c .before .before .if1 in
-    sym (kept _ _ _ (first-from-no-jump .ensures) (if1 .left) ∙ broken _ _ _
-    (c .before .first-outside-code .ensures) (c .if2 .taken)))
+    let p = c .before .before in
+    sym (kept _ _ _ (p .before .first-from-no-jump .ensures) (p .if1 .left)
+    ∙ broken _ _ _ (c .before .first-outside-code .ensures) (c .if2 .taken)))
+    (λ c κs. search needs)
+    (λ c.
+    let q = c .before .before in
+    let p = q .before .before in
+    sym (kept _ _ _ (p .before .first-from-no-jump .ensures) (p .if1 .left)
+    ∙ kept _ _ _ (q .before .first-outside-code .ensures) (q .if2 .left)
+    ∙ broken _ _ _ (c .before .first-not-rising .ensures) (c .if3 .taken)))
     (λ c κs.
-    let entry = c .before .before .before .before .before .before in
-    let first-from-no-jump = c .before .before .before .first-from-no-jump in
-    let if1 = c .before .before .if1 in (
+    let q = c .before .before in
+    let p = q .before .before in
+    let entry = p .before .before .before .before in (
       entry .pre .0,
       within-of (entry .args .memory .now) _ _ (entry .pre .0 .code-limit) (entry .pre .1)
-          (clean-of _ _ _ (first-from-no-jump .ensures) (if1 .left)) (clean-of _ _ _
-          (c .before .first-outside-code .ensures) (c .if2 .left)),
+          (clean-of _ _ _ (p .before .first-from-no-jump .ensures) (p .if1 .left))
+          (clean-of _ _ _ (q .before .first-outside-code .ensures) (q .if2 .left)),
     ))
     (λ c.
-    let first-from-no-jump = c .before .before .before .before .first-from-no-jump in
-    let if1 = c .before .before .before .if1 in
-    let first-outside-code = c .before .before .first-outside-code in
-    c .check-sets .ensures ∙ sym (kept _ _ _ (first-from-no-jump .ensures) (if1 .left) ∙ kept _ _ _
-    (first-outside-code .ensures) (c .before .if2 .left))))
+    let r = c .before in
+    let q = r .before .before in
+    let p = q .before .before in
+    c .check-sets .ensures
+    ∙ sym (kept _ _ _ (p .before .first-from-no-jump .ensures) (p .if1 .left)
+    ∙ kept _ _ _ (q .before .first-outside-code .ensures) (q .if2 .left)
+    ∙ kept _ _ _ (r .before .first-not-rising .ensures) (r .if3 .left))))

@@ -1,6 +1,7 @@
 -- `report::report` meets its contract: by the verdict, what the passes answer or the refusal.
 use mathlib.Core.Path.{sym, _∙_}
 use denote.Ref.{now}
+use native.Mathlib.Omega.{arith}
 use borrow.Author.Needs.{needs}
 use Rattle.report.proofs.Held.{held}
 use Rattle.report.proofs.Sets.{readable, figures-are}
@@ -16,7 +17,8 @@ report-spec =
     (λ c. search needs)
     (λ c κs.
     let a = c .before .before .before .before .before .args in
-    readable _ _ (now (a .edges)) (held (a .technique) _ _ _ (sym (c .before .before .check .ensures) ∙ c .enum-told .given .1)))
+    let h = held (a .technique) _ _ _ (sym (c .before .before .check .ensures) ∙ c .enum-told .given .1) in
+    (readable _ _ (now (a .edges)) h, omega (arith, h .within .few)))
     (λ c. search needs)
     (λ c κs. search needs)
     (λ c.

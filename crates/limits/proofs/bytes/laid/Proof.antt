@@ -21,4 +21,7 @@ laid-spec =
     (λ c κs. tt)
     (λ c κs. tt)
     (λ c κs. tt)
+    (λ c κs. tt)
+    (λ c κs. tt)
+    (λ c κs. tt)
     (λ c. tt))

@@ -10,10 +10,10 @@ figures-spec =
     tie.close
     (tie.spec
     (λ c κs.
-    let readable = c .before .before .before .pre in
+    let readable = c .before .before .before .pre .0 in
     let limit = readable .sized .code-limit in
     (readable, table-zeros _ limit, table-zeros _ limit))
-    (λ c κs. summable _ _ (c .before .before .before .before .before .before .pre .sized) (c .before .before .count-words .ensures))
+    (λ c κs. summable _ _ (c .before .before .before .before .before .before .pre .0 .sized) (c .before .before .count-words .ensures))
     (λ c. search needs)
     (λ c κs. search needs)
-    (λ c. figures-read _ _ (c .before .before .before .before .count-words .ensures) (c .before .sum-up .ensures) (c .freedom-of .ensures)))
+    (λ c. figures-read _ _ _ (c .before .before .before .before .count-words .ensures) (c .before .sum-up .ensures) (c .freedom-of .ensures)))

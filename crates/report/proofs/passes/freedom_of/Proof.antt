@@ -13,9 +13,10 @@ freedom-of-spec =
     (tie.spec
     (λ c. rw (eq-eqb _ _ (c .if1 .taken)))
     (λ c. search needs)
+    (λ c. search needs)
     (λ c.
     let a = c .before .args in
     let few : a .jumps ≤ 65535 = omega arith in
-    let most : a .jumps * a .n ≤ 65535 * 2048 = mul-le-mul few (c .before .pre) in
+    let most : a .jumps * a .n ≤ 65535 * 2048 = mul-le-mul few (c .before .pre .0) in
     omega arith)
     (λ c. rw (ne-eqb _ _ (c .if1 .left))))
