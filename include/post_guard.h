@@ -18,8 +18,8 @@
  *
  * A state is PG_STATE_WORDS words: r0 to r31, then the pc. Only those of the place are read or written.
  * Memory is n words of code and, directly after them, D words of data; memory_len is n + D.
- * Edges are pairs of numbers: a jump's address, then a target. They must rise by jump address, then by target, without
- * repeats.
+ * Edges are pairs of numbers: a jump's address, then a target. Calls that check or write ask that they rise by jump address,
+ * then by target, without repeats.
  * Figures are PG_FIGURES numbers and totals PG_TOTALS numbers, as pg_report and pg_add_report say.
  * A technique is PG_PLAIN, or PG_MEMORY_GUARDS (any number but 0 means that one). */
 #ifndef POST_GUARD_H

@@ -492,7 +492,7 @@ impl Program {
         Ok(Program { memory, code_words: counts.code_words, edges })
     }
 
-    /// The parcel of the program.
+    /// The parcel of the program, if its edges rise.
     pub fn to_parcel(&self) -> Result<Vec<u8>, Refusal> {
         let mut parcel = vec![0; 40_972];
         let size = write_parcel(&self.memory, self.code_words, &self.edges, &mut parcel)?;

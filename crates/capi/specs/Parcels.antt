@@ -53,7 +53,7 @@ writtenPlace (Written.Refused why place) = place
 abbrev pub bytesIn : List ℕ → ℕ → List ℕ → List ℕ
 bytesIn memory n edges = parcelOf 2 (take n memory) edges (drop n memory)
 
--- the writing, where any of the places lent is too short, or none: 6, 18, and then 5
+-- the writing: 6, 18, and then 5, where some place that is lent is too short
 abbrev pub writeCall : List ℕ → ℕ → List ℕ → Bool → Written
 writeCall memory n edges short = writtenOf (callShaped (length memory) n (length edges)) edges short (bytesIn memory n edges)
 

@@ -66,7 +66,8 @@ ReadAfterWrite =
     → (m₀ g₀ m₁ g₁ : List ℕ) (answer : Read) → ReadSo (take k s′) m₀ g₀ answer m₁ g₁ → length m ≤ length m₀ → length g ≤ length g₀
     → ReadBack m n g m₀ g₀ answer m₁ g₁
 
--- what the reader put, of the bytes s, handed to the writer
+-- what the reader put, of the bytes s, handed to the writer: the places lent to the reader as they were and as it left them, and the
+-- counts that it answered, by which the writer gets their fronts
 pub record ReadThenWritten (s p : List ℕ) (answer : Written) (p′ : List ℕ) : Type 0 where
   pub memory : List ℕ
   pub numbers : List ℕ

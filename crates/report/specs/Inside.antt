@@ -68,8 +68,8 @@ pub record Readable (memory : List ℕ) (n : ℕ) : Type 0 where
   pub sized : Sized memory n
   pub guarded : (j : ℕ) → j < n → isJump (instrAt memory j) ≡ true → 3 ≤ j
 
--- what the checker's acceptance says of them: edges rise, jumps are the addresses with an edge, each guard holds its jump's ID, the targets of a
--- jump are the labels with its ID, and each label has the ID of some jump
+-- what the checker's acceptance says of them: edges rise, jumps are the addresses with an edge, each guard holds its jump's ID, the
+-- targets of a jump are the labels with its ID, and each label has the ID of some jump
 pub record Held (memory : List ℕ) (n : ℕ) (edges : List ℕ) : Type 0 where
   pub sized : Sized memory n
   pub within : Within edges n

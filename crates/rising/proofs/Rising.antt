@@ -11,7 +11,7 @@ use borrow.Author.Tests.{ltb-true, lt-ltb, eqb-true, eq-eqb, not-true, not-false
 use Rattle.lists.proofs.Bools.{and-left, and-right, and-rest, either, true-false, refuted}
 use Rattle.lists.proofs.Search.{Clean, lowest-is, lowest-none, clean-of}
 use Rattle.graph.specs.Claim.{edgeCount, jumpOf, targetOf}
-use Rattle.rising.specs.Inside.{IsRank}
+use Rattle.rising.specs.Inside.{rankOf, IsRank}
 use Rattle.rising.specs.Rising.{isAbove, notRising, firstNotRising, Above, Rising, FirstNotRising}
 
 module _ (edges : List ℕ) where
@@ -39,7 +39,11 @@ module _ (edges : List ℕ) where
   above-trans i k l (inr p) (inl q) = inl (omega (arith, p .0))
   above-trans i k l (inr p) (inr q) = inr (p .0 ∙ q .0, omega (arith, p .1, q .1))
 
-  -- by the two numbers of an edge as one, which is higher for the edge above
+  -- the two numbers of an edge as one: the edge above has the higher
+  pub rank-up : (i k : ℕ) → targetOf edges i < 65536 → Above edges i k → rankOf edges i < rankOf edges k
+  rank-up i k l (inl p) = omega arith
+  rank-up i k l (inr p) = omega (arith, p .0, p .1)
+
   module _ (i k : ℕ) {x y : ℕ} (a : IsRank x edges i) (b : IsRank y edges k) where
     pub rank-above : x < y → isAbove edges i k ≡ true
     rank-above l =
@@ -47,16 +51,9 @@ module _ (edges : List ℕ) where
         fact-above i k (⊎-elim (λ e. inr (e, omega (arith, a .is, b .is))) (λ q. inl q) (eq-or-lt-of-le no-lower))
 
     pub rank-not-above : y ≤ x → isAbove edges i k ≡ false
-    rank-not-above l = refuted _ λ e. go (above-fact i k e)
-      where
-        go : Above edges i k → ⊥
-        go (inl q) = omega (arith, a .is, a .narrow, b .is, b .narrow)
-        go (inr q) = omega (arith, a .is, b .is, q .0, q .1)
+    rank-not-above l = refuted _ λ e. omega (arith, a .is, b .is, rank-up i k (a .narrow) (above-fact i k e))
 
   -- ---- all edges
-
-  not-first : notRising edges 0 ≡ false
-  not-first = refl
 
   step : (k : ℕ) → 1 ≤ k → notRising edges k ≡ false → Above edges (k - 1) k
   step k l e = above-fact (k - 1) k (not-false _ (and-rest (ltb 0 k) _ (lt-ltb 0 k l) e))
