@@ -180,14 +180,14 @@ uint32_t pg_report_parcel(uint8_t technique, const uint8_t *parcel, size_t parce
 
 /* Checks a program and adds its freedom to totals over up to 65,535 parcels. Fresh totals are PG_TOTALS zeros.
  *
- * totals[0]: the parcels so far, those passed over included. totals[1]: the sum of the distinct edges. totals[2]: the sum of
- * the possible edges, jumps times code words. totals[3]: the place of the parcel with the largest freedom, counted from 0;
- * the earliest, where freedoms are equal. totals[4] and totals[5]: its distinct edges and its possible ones. totals[5] is 0
+ * totals[0]: the parcels so far, those passed over included. totals[1]: the sum of the edges of those counted. totals[2]: the
+ * sum of their possible edges, jumps times code words. totals[3]: the place of the parcel with the largest freedom, counted
+ * from 0; the earliest, where freedoms are equal. totals[4] and totals[5]: its edges and its possible ones. totals[5] is 0
  * where there is none yet; totals[3] and totals[4] are then passed over, and all three are put back as 0.
  *
  * Answers PG_OK where it is counted; PG_WITHOUT_JUMPS where it is accepted but has no jumps; or 6 to 15 or 18, as pg_check
- * answers.
- * totals[0] then goes up by one. Without jumps or refused, the parcel is passed over: it keeps its place, and nothing is added.
+ * answers. totals[0] then goes up by one. Without jumps or refused, the parcel is passed over: it keeps its place, and nothing
+ * is added.
  * Answers PG_UNCHANGED, and the totals are as they were, where totals[0] is 65535 (whatever the further parcel is), where
  * totals[1] or totals[2] would pass 64 bits, or where the numbers are no totals: totals[0] or totals[3] above 65535, totals[4]
  * or totals[5] of 2 to the 32 or more. Answers PG_PLACE_TOO_SHORT where totals_len is below PG_TOTALS or place_len below 2
