@@ -1,13 +1,14 @@
 -- That edges rise, as a test and as a fact: a search for an edge that does not finds none exactly where of any two the later is above.
 use Prim.Native.Nat.{ℕ, zero, suc, _-_, _≤_, _<_}
-use mathlib.Core.Path.{_≡_, refl, sym, subst, _∙_}
+use mathlib.Core.Path.{_≡_, refl, sym, ap, subst, _∙_}
 use mathlib.Core.Logic.{inl, inr, ⊎-elim}
-use mathlib.Core.Bool.{true, false, or-true}
+use mathlib.Core.Bool.{true, false, not, or-true}
 use mathlib.Core.List.{List}
 use native.Mathlib.Omega.{arith}
+use native.Mathlib.Decide.{decLt}
 use native.Mathlib.Nat.{eq-or-lt-of-le, le-of-suc-le-suc, not-suc-le-zero}
-use lib.Dec.{ltb, eqb}
-use borrow.Author.Tests.{ltb-true, lt-ltb, eqb-true, eq-eqb, not-true, not-false}
+use lib.Dec.{ltb, leb, eqb}
+use borrow.Author.Tests.{ltb-true, lt-ltb, lt-leb, le-leb, eqb-true, eq-eqb, not-true, not-false}
 use Rattle.lists.proofs.Bools.{and-left, and-right, and-rest, either, true-false, refuted}
 use Rattle.lists.proofs.Search.{Clean, lowest-is, lowest-none, clean-of}
 use Rattle.graph.specs.Claim.{edgeCount, jumpOf, targetOf}
@@ -44,14 +45,19 @@ module _ (edges : List ℕ) where
   rank-up i k l (inl p) = omega arith
   rank-up i k l (inr p) = omega (arith, p .0, p .1)
 
-  module _ (i k : ℕ) {x y : ℕ} (a : IsRank x edges i) (b : IsRank y edges k) where
-    pub rank-above : x < y → isAbove edges i k ≡ true
-    rank-above l =
-        let no-lower : jumpOf edges i ≤ jumpOf edges k = omega (arith, a .is, a .narrow, b .is, b .narrow) in
-        fact-above i k (⊎-elim (λ e. inr (e, omega (arith, a .is, b .is))) (λ q. inl q) (eq-or-lt-of-le no-lower))
-
-    pub rank-not-above : y ≤ x → isAbove edges i k ≡ false
-    rank-not-above l = refuted _ λ e. omega (arith, a .is, b .is, rank-up i k (a .narrow) (above-fact i k e))
+  -- so the two numbers tell whether an edge rises
+  pub rank-falls : (k : ℕ) {x y : ℕ} → 1 ≤ k → IsRank x edges (k - 1) → IsRank y edges k → leb y x ≡ notRising edges k
+  rank-falls k {x} {y} l a b = rw (lt-ltb 0 k l) (go (decLt x y))
+    where
+      go : Dec (x < y) → leb y x ≡ not (isAbove edges (k - 1) k)
+      go (yes p) =
+          let no-lower : jumpOf edges (k - 1) ≤ jumpOf edges k = omega (arith, a .is, a .narrow, b .is, b .narrow) in
+          let above : Above edges (k - 1) k =
+          ⊎-elim (λ e. inr (e, omega (arith, a .is, b .is))) (λ q. inl q) (eq-or-lt-of-le no-lower) in
+          lt-leb y x p ∙ sym (ap not (fact-above (k - 1) k above))
+      go (no p) =
+          le-leb y x (omega arith)
+          ∙ sym (ap not (refuted _ λ e. omega (arith, a .is, b .is, rank-up (k - 1) k (a .narrow) (above-fact (k - 1) k e))))
 
   -- ---- all edges
 
