@@ -1,6 +1,6 @@
 -- The verdict is Accepted exactly where the published conditions hold: rule by rule, each test as the fact it tests.
 use Prim.Native.Nat.{ℕ, _+_, _-_, _<_}
-use mathlib.Core.Path.{_≡_, refl, ap, subst, _∙_}
+use mathlib.Core.Path.{_≡_, refl, sym, ap, subst, _∙_}
 use mathlib.Core.Logic.{_⊎_, inl, inr}
 use mathlib.Core.Bool.{Bool, true, false, not, _&&_, _||_}
 use mathlib.Core.Option.{Option, none, some}
@@ -10,12 +10,12 @@ use lib.ListN.{length}
 use lib.Dec.{ltb, leb, eqb}
 use borrow.Author.Tests.{ltb-true, lt-ltb, leb-true, leb-false, le-leb, lt-leb, eqb-true, eq-eqb, not-true, not-false}
 use Rattle.lists.specs.Search.{any}
-use Rattle.lists.proofs.Bools.{and-left, and-right, and-rest, or-left, or-right, both-true, true-false, refuted, either}
+use Rattle.lists.proofs.Bools.{and-left, and-right, and-rest, or-left, or-right, both-true, same-bool, true-false, refuted, either}
 use Rattle.lists.proofs.Search.{any-witness, any-none}
 use Rattle.isa.specs.declared.Instr.{Instr}
 use Rattle.isa.specs.declared.Technique.{Technique}
 use Rattle.isa.specs.Instructions.{instrAt, isIllegal, isJump, isStore, labelNumber, branchTarget}
-use Rattle.graph.specs.Claim.{edgeCount, jumpOf, targetOf, isDestination, idOf}
+use Rattle.graph.specs.Claim.{edgeCount, jumpOf, targetOf, isEdge, isDestination, idOf}
 use Rattle.graph.specs.Rules.{lacksEdge, isLabel, isLabelOf, labelWrong}
 use Rattle.rising.proofs.Rising.{clean-rising, rising-clean}
 use Rattle.guards.specs.declared.Slot.{Slot}
@@ -23,7 +23,7 @@ use Rattle.guards.specs.Sequences.{jumpGuard, storeGuard, endsAt}
 use Rattle.guards.specs.Rules.{storeUnguarded, jumpUnguarded, insideEnding, targetWrongIfAny, branchWrong}
 use Rattle.guards.proofs.Known.{jmpPlace, jmp-place, jmp-there}
 use Rattle.guards.proofs.Targets.{TargetRight, target-right, right-target}
-use Rattle.graph.proofs.Apart.{WithinIfMeeting, meeting-within, within-apart}
+use Rattle.graph.proofs.Apart.{OneIfMeeting, apart-one, one-apart}
 use Rattle.checker.specs.Conditions.{Listed, IsId, EndsWith, InnerWord, StoresGuarded, OutsideStoreGuards, Conditions}
 use Rattle.checker.specs.Theorems.{AcceptedExactly}
 use Rattle.checker.proofs.Listed.{
@@ -114,8 +114,9 @@ module _ (t : Technique) (memory : List ℕ) (n : ℕ) (edges : List ℕ) (ok : 
   sets : (i j a : ℕ) → Listed edges i a → Listed edges j a → (b : ℕ) → Listed edges i b → Listed edges j b
   sets i j a ia ja b ib =
       edge-listed edges j b
-      (meeting-within edges n i j (starts j a ja .0) (ok .sets-apart i (starts i a ia .0)) a (arrives i a ia)
-      (listed-edge edges i a ia) (listed-edge edges j a ja) b (arrives i b ib) (listed-edge edges i b ib))
+      (sym (apart-one edges n i j (starts j a ja .0) (ok .sets-apart i (starts i a ia .0)) a (arrives i a ia) (listed-edge edges i a ia)
+      (listed-edge edges j a ja) b (arrives i b ib))
+      ∙ listed-edge edges i b ib)
 
   labelled : (j a id : ℕ) → Listed edges j a → IsId edges j id → instrAt memory a ≡ Instr.Label id
   labelled j a id l d =
@@ -189,10 +190,13 @@ module _ (t : Technique) (memory : List ℕ) (n : ℕ) (edges : List ℕ) (c : C
       let l = c .graph .jumps-have-successors a (r .0) h (r .1) in
       true-false (listed-has edges a (l .0) (l .1)) (not-true _ (and-right (isJump (instrAt memory a)) _ e))
 
-  within-meeting : (i j : ℕ) → WithinIfMeeting edges n i j
-  within-meeting i j a ha ia ja b hb ib =
-      listed-edge edges j b
-      (c .graph .sets-equal-or-apart i j a (edge-listed edges i a ia) (edge-listed edges j a ja) b (edge-listed edges i b ib))
+  one-if-meeting : (i j : ℕ) → OneIfMeeting edges n i j
+  one-if-meeting i j a ha ia ja b hb = same-bool _ _ (within i j ia ja) (within j i ja ia)
+    where
+      within : (x y : ℕ) → isEdge edges x a ≡ true → isEdge edges y a ≡ true → isEdge edges x b ≡ true → isEdge edges y b ≡ true
+      within x y xa ya xb =
+          listed-edge edges y b
+          (c .graph .sets-equal-or-apart x y a (edge-listed edges x a xa) (edge-listed edges y a ya) b (edge-listed edges x b xb))
 
   no-label-wrong : (a : ℕ) → a < n → labelWrong memory n edges a ≡ false
   no-label-wrong a h = refuted _ λ e. go (either _ _ e)
@@ -267,7 +271,7 @@ module _ (t : Technique) (memory : List ℕ) (n : ℕ) (edges : List ℕ) (c : C
             lt-leb n (targetOf edges k) (c .graph .edges-end-in-code (jumpOf edges k) (targetOf edges k) (place-listed edges k h));
         edges-rise = rising-clean edges (c .edges-rise);
         jumps-leave = no-lack;
-        sets-apart = λ i h. within-apart edges n i (λ j l. (within-meeting i j, within-meeting j i));
+        sets-apart = λ i h. one-apart edges n i (λ j l. one-if-meeting i j);
         last-illegal = ap isIllegal (c .instrumented .last-illegal);
         labels = no-label-wrong;
         stores = no-store t refl;

@@ -2,3 +2,4 @@ pub mod Verdicts
 pub mod Conditions
 pub mod Theorems
 pub mod Steps
+pub mod Passes

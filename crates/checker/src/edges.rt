@@ -1,12 +1,14 @@
-// Edges one by one: rules 7 to 9, and the ID of each jump's target set.
+// Edges one by one: rules 7 to 9. Edges that rise stand side by side where they start at one jump.
 ghost use mathlib.Core.Path.{_≡_};
-ghost use Prim.Native.Nat.{min, _<_, _≤_};
+ghost use Prim.Native.Nat.{_<_, _≤_};
 ghost use lib.ListN.{length};
 ghost use Rattle.lists.specs.Search.{lowest};
 ghost use Rattle.lists.specs.Tables.{Table};
-ghost use Rattle.graph.specs.Claim.{edgeCount, jumpOf, targetOf, idOf};
+ghost use Rattle.graph.specs.Claim.{edgeCount, jumpOf, targetOf};
 ghost use Rattle.graph.specs.Rules.{startsAtNoJump, endsOutsideCode, lacksEdge};
 ghost use Rattle.graph.specs.Passes.{Within, Is};
+ghost use Rattle.rising.specs.Rising.{Rising};
+ghost use Rattle.checker.specs.Passes.{Run};
 use crate::code::jump_at;
 use lists::both;
 
@@ -81,51 +83,35 @@ pub(crate) fn target_of(edges: &[u16], n: usize, k: usize) -> usize
     target_number(edges, k)
 }
 
-pub(crate) fn fill(xs: &mut [u16; 2048], n: usize, v: u16)
-    requires { ⌜ (n ≤ 2048) × (length (now xs) ≡ 2048) ⌝ }
-    ensures { λ _. ⌜ Table (now (xs .exit)) n (λ _. v) ⌝ }
+// Where the edges from k on that start at j end: the first that starts elsewhere, or their number.
+pub(crate) fn run_end(edges: &[u16], k: usize, j: usize) -> usize
+    requires { ⌜ k ≤ edgeCount (now edges) ⌝ }
+    ensures { λ r. ⌜ Run (now (edges .entry)) j k r ⌝ }
 {
-    let mut a = 0;
-    while a < n {
-        xs[a] = v;
-        a += 1;
-    }
-}
-
-fn least(a: u16, b: u16) -> u16
-    ensures { λ r. ⌜ r ≡ min a b ⌝ }
-{
-    if a < b { a } else { b }
-}
-
-// The lowest target of each jump, or n where it has none.
-pub(crate) fn lowest_targets(edges: &[u16], n: usize, id: &mut [u16; 2048])
-    requires { ⌜ Within (now edges) n × (length (now id) ≡ 2048) ⌝ }
-    ensures { λ _. ⌜ Table (now (id .exit)) n (idOf (now (edges .entry)) n) ⌝ }
-{
-    fill(id, n, n as u16);
     let m = edges.len() / 2;
-    let mut k = 0;
-    while k < m {
-        let j = jump_of(edges, n, k);
-        let t = target_of(edges, n, k);
-        let v = least(t as u16, id[j]);
-        id[j] = v;
-        k += 1;
+    let mut end = k;
+    while end < m {
+        if jump_number(edges, end) != j {
+            return end;
+        }
+        end += 1;
     }
+    end
 }
 
-// Rule 9: the lowest jmp without an edge, or n.
-pub(crate) fn first_without_edge(memory: &[u64], n: usize, edges: &[u16], id: &[u16; 2048]) -> usize
-    requires { ⌜ (n ≤ length (now memory)) × Within (now edges) n × Table (now id) n (idOf (now edges) n) ⌝ }
+// Rule 9: the lowest jmp without an edge, or n. Edge k is the first that starts at a or above.
+pub(crate) fn first_without_edge(memory: &[u64], n: usize, edges: &[u16]) -> usize
+    requires { ⌜ (n ≤ length (now memory)) × Rising (now edges) ⌝ }
     ensures { λ r. ⌜ r ≡ lowest (lacksEdge (now (memory .entry)) (now (edges .entry))) n ⌝ }
 {
-    let missing = n as u16;
+    let mut k = 0;
     let mut a = 0;
     while a < n {
-        if both(jump_at(memory, a), id[a] == missing) {
+        let end = run_end(edges, k, a);
+        if both(jump_at(memory, a), end == k) {
             return a;
         }
+        k = end;
         a += 1;
     }
     a

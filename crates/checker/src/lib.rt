@@ -1,11 +1,11 @@
 // The verdict on a program: the rules of document 01 in their order, and K3's of document 02.
 ghost use mathlib.Core.Path.{_≡_};
 ghost use Prim.Native.Nat.{_≤_};
-ghost use Rattle.lists.specs.Tables.{Table};
-ghost use Rattle.graph.specs.Claim.{edgeCount, idOf};
-ghost use Rattle.graph.specs.Passes.{Sized, Within, Owned};
+ghost use Rattle.graph.specs.Claim.{edgeCount};
+ghost use Rattle.graph.specs.Passes.{Sized, Owned};
 ghost use Rattle.checker.specs.Verdicts.{firstBroken, guardRules, verdictOf};
 ghost use Rattle.checker.specs.Steps.{fromEdges, fromSets, fromLabels};
+ghost use Rattle.checker.specs.Passes.{Claimed, Leaving};
 
 mod branches;
 mod code;
@@ -24,12 +24,10 @@ use code::illegal_at;
 use edges::first_from_no_jump;
 use edges::first_outside_code;
 use edges::first_without_edge;
-use edges::lowest_targets;
 use isa::Technique;
 use labels::first_label_wrong;
 use rising::first_not_rising;
 use sets::first_overlap;
-use sets::owners;
 use unguarded::first_bare_jump;
 use unguarded::first_bare_store;
 
@@ -67,22 +65,20 @@ fn check_edges(technique: Technique, memory: &[u64], n: usize, edges: &[u16]) ->
 
 // Rules 9 and 10, and those after them.
 fn check_sets(technique: Technique, memory: &[u64], n: usize, edges: &[u16]) -> Verdict
-    requires { ⌜ Sized (now memory) n × Within (now edges) n ⌝ }
+    requires { ⌜ Claimed (now memory) n (now edges) ⌝ }
     ensures { λ r. ⌜ r ≡ firstBroken (fromSets technique (now (memory .entry)) n (now (edges .entry))) ⌝ }
 {
-    let mut id = [0u16; 2048];
-    lowest_targets(edges, n, &mut id);
-    let a = first_without_edge(memory, n, edges, &id);
+    let a = first_without_edge(memory, n, edges);
     if a < n {
         return Verdict::Refused(Refusal::JumpWithoutEdge, Place::Address(a));
     }
-    let mut own = [0u16; 2048];
-    owners(edges, n, &id, &mut own);
-    let b = first_overlap(edges, n, &id, &own);
+    let nobody = n as u16;
+    let mut own = [nobody; 2048];
+    let b = first_overlap(edges, n, &mut own);
     if b < n {
         return Verdict::Refused(Refusal::TargetSetsOverlap, Place::Address(b));
     }
-    check_labels(technique, memory, n, edges, &id, &own)
+    check_labels(technique, memory, n, edges, &own)
 }
 
 // Rules 11 and 12, and those after them.
@@ -91,10 +87,9 @@ fn check_labels(
     memory: &[u64],
     n: usize,
     edges: &[u16],
-    id: &[u16; 2048],
     own: &[u16; 2048],
 ) -> Verdict
-    requires { ⌜ Sized (now memory) n × Table (now id) n (idOf (now edges) n) × Owned (now edges) n (now own) ⌝ }
+    requires { ⌜ Claimed (now memory) n (now edges) × Leaving (now memory) n (now edges) × Owned (now edges) n (now own) ⌝ }
     ensures { λ r. ⌜ r ≡ firstBroken (fromLabels technique (now (memory .entry)) n (now (edges .entry))) ⌝ }
 {
     if !illegal_at(memory, n - 1) {
@@ -104,25 +99,19 @@ fn check_labels(
     if a < n {
         return Verdict::Refused(Refusal::LabelCondition, Place::Address(a));
     }
-    check_guards(technique, memory, n, edges, id)
+    check_guards(technique, memory, n, edges)
 }
 
 // Rules 13 to 15.
-fn check_guards(
-    technique: Technique,
-    memory: &[u64],
-    n: usize,
-    edges: &[u16],
-    id: &[u16; 2048],
-) -> Verdict
-    requires { ⌜ Sized (now memory) n × Table (now id) n (idOf (now edges) n) ⌝ }
+fn check_guards(technique: Technique, memory: &[u64], n: usize, edges: &[u16]) -> Verdict
+    requires { ⌜ Claimed (now memory) n (now edges) × Leaving (now memory) n (now edges) ⌝ }
     ensures { λ r. ⌜ r ≡ firstBroken (guardRules technique (now (memory .entry)) n (now (edges .entry))) ⌝ }
 {
     let a = first_bare_store(technique, memory, n);
     if a < n {
         return Verdict::Refused(Refusal::StoreUnguarded, Place::Address(a));
     }
-    let b = first_bare_jump(technique, memory, n, edges, id);
+    let b = first_bare_jump(technique, memory, n, edges);
     if b < n {
         return Verdict::Refused(Refusal::JumpUnguarded, Place::Address(b));
     }

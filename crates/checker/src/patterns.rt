@@ -4,18 +4,19 @@ ghost use mathlib.Core.Bool.{cond};
 ghost use Prim.Native.Nat.{_+_, _-_, _%_, _^_, _<_, _≤_};
 ghost use lib.Dec.{leb};
 ghost use lib.ListN.{length};
-ghost use Rattle.isa.specs.Words.{decodeOf};
+ghost use Rattle.isa.specs.Words.{decodeOf, encodeOf};
+ghost use Rattle.isa.specs.declared.Instr.{Instr};
 ghost use Rattle.isa.specs.declared.Technique.{Technique};
 ghost use Rattle.guards.specs.Sequences.{fits, standsAt, endsAt, jumpGuard, storeGuard};
-ghost use Rattle.guards.specs.Patterns.{slotOf, slotsFrom, Form, Formed, wordsOf, freesOf, jumpLength, idPlace, JumpWords};
+ghost use Rattle.guards.specs.Patterns.{slotOf, wordAt, slotsFrom, Form, Formed, wordsOf, jumpWords, freesOf, jumpLength, idPlace};
 use isa::Instr;
 use isa::Technique;
 use isa::encode;
 
-// The words that lead to a jmp, itself the last, for the ID 0.
+// The words that lead to a jmp, itself the last, but for the movi that holds the ID: 0 stands there, and it is given apart.
 pub(crate) fn jump_words(technique: Technique, n: usize) -> [u64; 10]
     requires { ⌜ (1 ≤ n) × (n ≤ 2048) ⌝ }
-    ensures { λ r. ⌜ r ≡ wordsOf 10 (jumpGuard technique n 0) ⌝ }
+    ensures { λ r. ⌜ r ≡ jumpWords technique n ⌝ }
 {
     match technique {
         Technique::Plain => plain_jump_words(n),
@@ -25,13 +26,13 @@ pub(crate) fn jump_words(technique: Technique, n: usize) -> [u64; 10]
 
 fn plain_jump_words(n: usize) -> [u64; 10]
     requires { ⌜ (1 ≤ n) × (n ≤ 2048) ⌝ }
-    ensures { λ r. ⌜ r ≡ wordsOf 10 (jumpGuard Technique.Plain n 0) ⌝ }
+    ensures { λ r. ⌜ r ≡ jumpWords Technique.Plain n ⌝ }
 {
     let halt = halt_of(n);
     [
         encode(Instr::Addi(0, 0, 0)),
         encode(Instr::Ld(1, 0, 0)),
-        encode(Instr::Movi(2, 0)),
+        0,
         encode(Instr::Bgt(1, 2, halt)),
         encode(Instr::Bgt(2, 1, halt)),
         encode(Instr::Jmp(0)),
@@ -44,7 +45,7 @@ fn plain_jump_words(n: usize) -> [u64; 10]
 
 fn guarded_jump_words(n: usize) -> [u64; 10]
     requires { ⌜ (1 ≤ n) × (n ≤ 2048) ⌝ }
-    ensures { λ r. ⌜ r ≡ wordsOf 10 (jumpGuard Technique.MemoryGuards n 0) ⌝ }
+    ensures { λ r. ⌜ r ≡ jumpWords Technique.MemoryGuards n ⌝ }
 {
     let halt = halt_of(n);
     [
@@ -54,7 +55,7 @@ fn guarded_jump_words(n: usize) -> [u64; 10]
         encode(Instr::Bgt(0, 1, halt)),
         encode(Instr::Bgt(2, 0, halt)),
         encode(Instr::Ld(1, 0, 0)),
-        encode(Instr::Movi(2, 0)),
+        0,
         encode(Instr::Bgt(1, 2, halt)),
         encode(Instr::Bgt(2, 1, halt)),
         encode(Instr::Jmp(0)),
@@ -69,22 +70,21 @@ fn halt_of(n: usize) -> u32
     (n - 1) as u32
 }
 
-// Another ID in these words.
-pub(crate) fn put_id(technique: Technique, n: usize, id: u16, words: &mut [u64; 10])
-    requires { ⌜ JumpWords technique n (now words) ⌝ }
-    ensures { λ _. ⌜ now (words .exit) ≡ wordsOf 10 (jumpGuard technique n id) ⌝ }
-{
-    let at = id_place(technique);
-    words[at] = encode(Instr::Movi(2, id as u32));
-}
-
-fn id_place(technique: Technique) -> usize
+// The place of the movi that holds the ID, and that word.
+pub(crate) fn id_place(technique: Technique) -> usize
     ensures { λ r. ⌜ r ≡ idPlace technique ⌝ }
 {
     match technique {
         Technique::Plain => 2,
         Technique::MemoryGuards => 6,
     }
+}
+
+pub(crate) fn id_word(id: usize) -> u64
+    requires { ⌜ id < 2048 ⌝ }
+    ensures { λ r. ⌜ r ≡ encodeOf (Instr.Movi 2 id) ⌝ }
+{
+    encode(Instr::Movi(2, id as u32))
 }
 
 // Of the first word any register, of the others nothing.
@@ -132,35 +132,52 @@ pub(crate) fn store_frees() -> [u8; 10]
     [2, 0, 0, 0, 0, 1, 0, 0, 0, 0]
 }
 
-// Whether the sequence of len words stands in memory with its last word at a.
+// Whether the sequence of len words stands in memory with its last word at a; the word at `place` of it is `apart` (10 is no place).
 pub(crate) fn ends_at(
     memory: &[u64],
     words: &[u64; 10],
+    place: usize,
+    apart: u64,
     free: &[u8; 10],
     len: usize,
     a: usize,
 ) -> bool
-    requires { ⌜ (a < length (now memory)) × (a < 2048) × (len ≤ 10) × Formed (slotsFrom (now words) (now free) 0 len) ⌝ }
-    ensures { λ r. ⌜ r ≡ endsAt (now (memory .entry)) (slotsFrom (now (words .entry)) (now (free .entry)) 0 len) a ⌝ }
+    requires { ⌜ (a < length (now memory)) × (a < 2048) × (len ≤ 10) × Formed (slotsFrom (λ k. wordAt (now words) place apart k) (now free) 0 len) ⌝ }
+    ensures { λ r. ⌜ r ≡ endsAt (now (memory .entry)) (slotsFrom (λ k. wordAt (now (words .entry)) place apart k) (now (free .entry)) 0 len) a ⌝ }
 {
     if a + 1 < len {
         return false;
     }
-    stands_at(memory, a + 1 - len, words, free, len)
+    stands_at(memory, a + 1 - len, words, place, apart, free, len)
 }
 
-fn stands_at(memory: &[u64], b: usize, words: &[u64; 10], free: &[u8; 10], len: usize) -> bool
-    requires { ⌜ (b + len ≤ length (now memory)) × (b ≤ 2048) × (len ≤ 10) × Formed (slotsFrom (now words) (now free) 0 len) ⌝ }
-    ensures { λ r. ⌜ r ≡ standsAt (now (memory .entry)) b (slotsFrom (now (words .entry)) (now (free .entry)) 0 len) ⌝ }
+fn stands_at(
+    memory: &[u64],
+    b: usize,
+    words: &[u64; 10],
+    place: usize,
+    apart: u64,
+    free: &[u8; 10],
+    len: usize,
+) -> bool
+    requires { ⌜ (b + len ≤ length (now memory)) × (b ≤ 2048) × (len ≤ 10) × Formed (slotsFrom (λ k. wordAt (now words) place apart k) (now free) 0 len) ⌝ }
+    ensures { λ r. ⌜ r ≡ standsAt (now (memory .entry)) b (slotsFrom (λ k. wordAt (now (words .entry)) place apart k) (now (free .entry)) 0 len) ⌝ }
 {
     let mut k = 0;
     while k < len {
-        if !word_fits(memory[b + k], words[k], free[k]) {
+        if !word_fits(memory[b + k], word_at(words, place, apart, k), free[k]) {
             return false;
         }
         k += 1;
     }
     true
+}
+
+fn word_at(words: &[u64; 10], place: usize, apart: u64, k: usize) -> u64
+    requires { ⌜ k < 10 ⌝ }
+    ensures { λ r. ⌜ r ≡ wordAt (now (words .entry)) place apart k ⌝ }
+{
+    if k == place { apart } else { words[k] }
 }
 
 fn immediate_if(any: bool, word: u64) -> u64

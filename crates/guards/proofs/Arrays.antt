@@ -6,7 +6,7 @@ use mathlib.Core.List.{List, [], _∷_}
 use native.Mathlib.Omega.{arith}
 use native.Mathlib.Numerals.{add-one}
 use lib.Dec.{leb}
-use lib.ListN.{length, getD, set}
+use lib.ListN.{length, getD}
 use Rattle.lists.proofs.Bools.{clash}
 use Rattle.isa.specs.declared.Instr.{Instr}
 use Rattle.isa.specs.declared.Technique.{Technique}
@@ -15,14 +15,18 @@ use Rattle.isa.specs.Instructions.{instrAt}
 use Rattle.isa.proofs.Words.{exact-instruction}
 use Rattle.guards.specs.declared.Slot.{Slot}
 use Rattle.guards.specs.Sequences.{just, anyRegister, labelTest, rangeTest, jumpGuard, storeGuard, fits, standsAt}
-use Rattle.guards.specs.Patterns.{slotOf, slotsFrom, Form, Formed, wordsOf, freeOf, freesOf, jumpLength, idPlace}
+use Rattle.guards.specs.Patterns.{slotOf, wordAt, slotsFrom, Form, Formed, wordsOf, freeOf, freesOf, jumpLength, idPlace, jumpWords}
 
-pub slots-length : (words free : List ℕ) (k m : ℕ) → length (slotsFrom words free k m) ≡ m
+pub slots-length : (word : ℕ → ℕ) (free : List ℕ) (k m : ℕ) → length (slotsFrom word free k m) ≡ m
 unfolding slotsFrom
-slots-length words free k zero = refl
-slots-length words free k (suc m) = ap suc (slots-length words free (suc k) m)
+slots-length word free k zero = refl
+slots-length word free k (suc m) = ap suc (slots-length word free (suc k) m)
 
-slots-tail : (x y : ℕ) (words free : List ℕ) (k m : ℕ) → slotsFrom (x ∷ words) (y ∷ free) (suc k) m ≡ slotsFrom words free k m
+-- an array's slots
+abbrev slotsOf : List ℕ → List ℕ → ℕ → ℕ → List Slot
+slotsOf words free k m = slotsFrom (λ i. getD words i 0) free k m
+
+slots-tail : (x y : ℕ) (words free : List ℕ) (k m : ℕ) → slotsOf (x ∷ words) (y ∷ free) (suc k) m ≡ slotsOf words free k m
 unfolding slotsFrom
 slots-tail x y words free k zero = refl
 slots-tail x y words free k (suc m) =
@@ -47,23 +51,23 @@ slot-back s h =
 
 -- what is read back from the arrays of a sequence
 pub slots-back : (slots : List Slot) (m : ℕ) → Formed slots → length slots ≤ m
-    → slotsFrom (wordsOf m slots) (freesOf m slots) 0 (length slots) ≡ slots
+    → slotsOf (wordsOf m slots) (freesOf m slots) 0 (length slots) ≡ slots
 unfolding slotsFrom
 slots-back [] m h l = refl
 slots-back (s ∷ slots) zero h l = absurd (omega arith)
 slots-back (s ∷ slots) (suc m) h l =
-    ap (λ (x : Slot). x ∷ slotsFrom (wordsOf (suc m) (s ∷ slots)) (freesOf (suc m) (s ∷ slots)) 1 (length slots)) (slot-back s (h .0))
+    ap (λ (x : Slot). x ∷ slotsOf (wordsOf (suc m) (s ∷ slots)) (freesOf (suc m) (s ∷ slots)) 1 (length slots)) (slot-back s (h .0))
     ∙ ap (λ (rest : List Slot). s ∷ rest)
     (slots-tail (encodeOf (s .instr)) (freeOf s) (wordsOf m slots) (freesOf m slots) 0 (length slots)
     ∙ slots-back slots m (h .1) (omega arith))
 
 -- one slot of a match
-module _ (memory words free : List ℕ) (b len : ℕ) where
+module _ (memory : List ℕ) (word : ℕ → ℕ) (free : List ℕ) (b len : ℕ) where
   -- what is left of the match from place k on
   abbrev pub Rest : ℕ → Bool
-  Rest k = standsAt memory (b + k) (slotsFrom words free k (len - k))
+  Rest k = standsAt memory (b + k) (slotsFrom word free k (len - k))
 
-  pub rest-all : standsAt memory b (slotsFrom words free 0 len) ≡ Rest 0
+  pub rest-all : standsAt memory b (slotsFrom word free 0 len) ≡ Rest 0
   rest-all =
       let z : b + 0 ≡ b = omega arith in
       let y : len - 0 ≡ len = omega arith in
@@ -74,20 +78,20 @@ module _ (memory words free : List ℕ) (b len : ℕ) where
   rest-none k e = let z : len - k ≡ 0 = omega arith in rw z
 
   pub rest-step : (k : ℕ) → k < len
-      → Rest k ≡ (fits (slotOf (getD words k 0) (getD free k 0)) (instrAt memory (b + k)) && Rest (k + 1))
+      → Rest k ≡ (fits (slotOf (word k) (getD free k 0)) (instrAt memory (b + k)) && Rest (k + 1))
   unfolding slotsFrom standsAt
   rest-step k l =
       let z : len - k ≡ suc (len - (k + 1)) = omega arith in
       let y : suc (b + k) ≡ b + (k + 1) = omega arith in
       rw (z, y, add-one k)
 
-  pub formed-step : (k : ℕ) → k < len → Formed (slotsFrom words free k (len - k))
-      → Form (slotOf (getD words k 0) (getD free k 0)) × Formed (slotsFrom words free (k + 1) (len - (k + 1)))
+  pub formed-step : (k : ℕ) → k < len → Formed (slotsFrom word free k (len - k))
+      → Form (slotOf (word k) (getD free k 0)) × Formed (slotsFrom word free (k + 1) (len - (k + 1)))
   unfolding slotsFrom
   formed-step k l h =
       let z : len - k ≡ suc (len - (k + 1)) = omega arith in
-      let g : Formed (slotsFrom words free k (suc (len - (k + 1)))) = subst (λ (x : ℕ). Formed (slotsFrom words free k x)) z h in
-      (g .0, subst (λ (x : ℕ). Formed (slotsFrom words free x (len - (k + 1)))) (sym (add-one k)) (g .1))
+      let g : Formed (slotsFrom word free k (suc (len - (k + 1)))) = subst (λ (x : ℕ). Formed (slotsFrom word free k x)) z h in
+      (g .0, subst (λ (x : ℕ). Formed (slotsFrom word free x (len - (k + 1)))) (sym (add-one k)) (g .1))
 
 -- the sequences have the form that the arrays ask for
 whole : (i : Instr) → exact (fieldsOf i) ≡ true → fieldsOf i .w < 2 ^ 32 → Form (just i)
@@ -161,38 +165,34 @@ module _ (n : ℕ) (small : n ≤ 2048) where
       (addi-form true, range-test (len - 1) n (anyRegister (Instr.St 0 0 0) ∷ []) (omega arith) (omega arith) store-end)
 
 -- arrays that hold a sequence, read back
-pub record Kept (words free : List ℕ) (len : ℕ) (slots : List Slot) : Type 0 where
-  pub same : slotsFrom words free 0 len ≡ slots
-  pub formed : Formed (slotsFrom words free 0 len)
+pub record Kept (word : ℕ → ℕ) (free : List ℕ) (len : ℕ) (slots : List Slot) : Type 0 where
+  pub same : slotsFrom word free 0 len ≡ slots
+  pub formed : Formed (slotsFrom word free 0 len)
 
-kept : (words free : List ℕ) (len : ℕ) (slots : List Slot) → Formed slots → length slots ≤ 10 → words ≡ wordsOf 10 slots
-    → free ≡ freesOf 10 slots → len ≡ length slots → Kept words free len slots
-kept words free len slots h l ew ef el =
-    let e : slotsFrom words free 0 len ≡ slots = rw (ew, ef, el) (slots-back slots 10 h l) in
-    record { same = e; formed = subst Formed (sym e) h }
+kept : (word : ℕ → ℕ) (free : List ℕ) (slots : List Slot) → Formed slots → length slots ≤ 10
+    → slotsFrom word free 0 (length slots) ≡ slotsOf (wordsOf 10 slots) (freesOf 10 slots) 0 (length slots)
+    → Kept word free (length slots) slots
+kept word free slots h l e =
+    let back = e ∙ slots-back slots 10 h l in
+    record { same = back; formed = subst Formed (sym back) h }
 
-pub jump-kept : (t : Technique) (n id : ℕ) (words free : List ℕ) (len : ℕ) → n ≤ 2048 → id < 2 ^ 32
-    → words ≡ wordsOf 10 (jumpGuard t n id) → free ≡ freesOf 10 (jumpGuard Technique.Plain 0 0) → len ≡ jumpLength t
-    → Kept words free len (jumpGuard t n id)
-jump-kept Technique.Plain n id words free len s l ew ef el =
-    kept words free len (jumpGuard Technique.Plain n id) (jump-formed n s Technique.Plain id l) (omega arith) ew ef el
-jump-kept Technique.MemoryGuards n id words free len s l ew ef el =
-    kept words free len (jumpGuard Technique.MemoryGuards n id) (jump-formed n s Technique.MemoryGuards id l) (omega arith) ew ef el
+-- the word with the ID is given apart
+pub jump-kept : (t : Technique) (n id : ℕ) (words : List ℕ) (place apart : ℕ) (free : List ℕ) (len : ℕ) → n ≤ 2048 → id < 2 ^ 32
+    → words ≡ jumpWords t n → place ≡ idPlace t → apart ≡ encodeOf (Instr.Movi 2 id)
+    → free ≡ freesOf 10 (jumpGuard Technique.Plain 0 0) → len ≡ jumpLength t
+    → Kept (λ k. wordAt words place apart k) free len (jumpGuard t n id)
+unfolding slotsFrom
+jump-kept Technique.Plain n id words place apart free len s l ew ep ea ef el =
+    rw (ew, ep, ea, ef, el) (kept _ _ (jumpGuard Technique.Plain n id) (jump-formed n s Technique.Plain id l) (omega arith) refl)
+jump-kept Technique.MemoryGuards n id words place apart free len s l ew ep ea ef el =
+    rw (ew, ep, ea, ef, el) (kept _ _ (jumpGuard Technique.MemoryGuards n id) (jump-formed n s Technique.MemoryGuards id l) (omega arith) refl)
 
+-- no word is
 pub store-kept : (n len : ℕ) (words free : List ℕ) → n ≤ 2048 → len ≤ 4096 → words ≡ wordsOf 10 (storeGuard n len)
-    → free ≡ freesOf 10 (storeGuard 0 0) → Kept words free 6 (storeGuard n len)
-store-kept n len words free s l ew ef = kept words free 6 (storeGuard n len) (store-formed n s len l) (omega arith) ew ef refl
+    → free ≡ freesOf 10 (storeGuard 0 0) → Kept (λ k. wordAt words 10 0 k) free 6 (storeGuard n len)
+unfolding slotsFrom
+store-kept n len words free s l ew ef = rw (ew, ef) (kept _ _ (storeGuard n len) (store-formed n s len l) (omega arith) refl)
 
 pub jump-length-low : (t : Technique) → jumpLength t ≤ 10
 jump-length-low Technique.Plain = omega arith
 jump-length-low Technique.MemoryGuards = omega arith
-
--- another ID put in
-pub id-put : (t : Technique) (n x y : ℕ)
-    → set (wordsOf 10 (jumpGuard t n x)) (idPlace t) (encodeOf (Instr.Movi 2 y)) ≡ wordsOf 10 (jumpGuard t n y)
-id-put Technique.Plain n x y = refl
-id-put Technique.MemoryGuards n x y = refl
-
-pub id-place-low : (t : Technique) → idPlace t < 10
-id-place-low Technique.Plain = omega arith
-id-place-low Technique.MemoryGuards = omega arith

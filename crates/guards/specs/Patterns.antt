@@ -5,8 +5,8 @@ use mathlib.Core.Path.{_≡_}
 use mathlib.Core.Bool.{Bool, true, false, cond, _&&_, _||_}
 use mathlib.Core.Option.{Option, none, some}
 use mathlib.Core.List.{List, [], _∷_}
-use lib.ListN.{getD}
-use lib.Dec.{ltb, leb}
+use lib.ListN.{getD, set}
+use lib.Dec.{ltb, leb, eqb}
 use Rattle.lists.specs.Search.{any}
 use Rattle.isa.specs.declared.Instr.{Instr}
 use Rattle.isa.specs.declared.Technique.{Technique}
@@ -20,10 +20,14 @@ use Rattle.guards.specs.Rules.{storeUnguarded, jumpUnguarded}
 abbrev pub slotOf : ℕ → ℕ → Slot
 slotOf word free = record { instr = decodeOf word; «any_register» = leb 1 free; «any_immediate» = leb 2 free }
 
+-- the word at place k, where one is given apart from the array
+abbrev pub wordAt : List ℕ → ℕ → ℕ → ℕ → ℕ
+wordAt words place apart k = cond (eqb k place) apart (getD words k 0)
+
 -- the slots from place k on, m of them
-unfoldable pub slotsFrom : List ℕ → List ℕ → ℕ → ℕ → List Slot
-slotsFrom words free k zero = []
-slotsFrom words free k (suc m) = slotOf (getD words k 0) (getD free k 0) ∷ slotsFrom words free (suc k) m
+unfoldable pub slotsFrom : (ℕ → ℕ) → List ℕ → ℕ → ℕ → List Slot
+slotsFrom word free k zero = []
+slotsFrom word free k (suc m) = slotOf (word k) (getD free k 0) ∷ slotsFrom word free (suc k) m
 
 -- a legal instruction, whose free fields are named and 0
 pub record Form (s : Slot) : Type 0 where
@@ -63,15 +67,9 @@ abbrev pub idPlace : Technique → ℕ
 idPlace Technique.Plain = 2
 idPlace Technique.MemoryGuards = 6
 
--- the words of a jmp's sequence, for some ID
-pub record JumpWords (t : Technique) (n : ℕ) (words : List ℕ) : Type 0 where
-  pub id : ℕ
-  pub are : words ≡ wordsOf 10 (jumpGuard t n id)
-
--- what a test that writes the ID answers, and leaves
-pub record JumpTested (r answer : Bool) (t : Technique) (n : ℕ) (words : List ℕ) : Type 0 where
-  pub answers : r ≡ answer
-  pub left : JumpWords t n words
+-- the words of a jmp's sequence, with 0 for that movi
+abbrev pub jumpWords : Technique → ℕ → List ℕ
+jumpWords t n = set (wordsOf 10 (jumpGuard t n 0)) (idPlace t) 0
 
 -- an instruction of this kind stands from w on, before the last of len words
 abbrev pub endingNear : (Instr → Bool) → List ℕ → ℕ → ℕ → ℕ → Bool

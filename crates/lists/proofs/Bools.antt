@@ -61,3 +61,7 @@ either false b e = inr e
 pub refuted : (b : Bool) → (b ≡ true → ⊥) → b ≡ false
 refuted true h = absurd (h refl)
 refuted false h = refl
+
+pub upheld : (b : Bool) → (b ≡ false → ⊥) → b ≡ true
+upheld true h = refl
+upheld false h = absurd (h refl)

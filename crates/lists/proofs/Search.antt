@@ -1,14 +1,13 @@
 -- Laws of searches: what the lowest passing number is, how a loop comes to it, and when some number passes.
-use Prim.Native.Nat.{ℕ, zero, suc, min, _+_, _<_, _≤_}
+use Prim.Native.Nat.{ℕ, zero, suc, _+_, _<_, _≤_}
 use mathlib.Core.Path.{_≡_, refl, sym, ap, subst, _∙_}
-use mathlib.Core.Bool.{Bool, true, false, cond, _&&_, _||_, or-true, and-true, and-false}
+use mathlib.Core.Bool.{Bool, true, false, cond, _&&_, or-true, and-true, and-false}
 use mathlib.Core.Logic.{⊎-elim}
 use native.Mathlib.Omega.{arith}
 use native.Mathlib.Nat.{eq-or-lt-of-le, le-of-suc-le-suc, not-suc-le-zero}
-use native.Mathlib.Decide.{ℕ-discrete}
-use borrow.Author.Tests.{ltb-true, ltb-false, eq-eqb, ne-eqb}
+use borrow.Author.Tests.{ltb-true, ltb-false}
 use borrow.Author.Count.{below-more}
-use lib.Dec.{ltb, eqb}
+use lib.Dec.{ltb}
 use Rattle.lists.specs.Search.{lowest, any}
 use Rattle.lists.proofs.Bools.{true-false}
 
@@ -127,29 +126,6 @@ any-none f n e k l = go (f k) refl
     go : (b : Bool) → f k ≡ b → f k ≡ false
     go true p = absurd (true-false (any-hit f n k l p) e)
     go false p = p
-
--- one number more that passes
-pub lowest-least : (f : ℕ → Bool) (n x : ℕ) → x < n → min x (lowest f n) ≡ lowest (λ a. eqb x a || f a) n
-lowest-least f n x l =
-    lowest-unique (λ a. eqb x a || f a) n (min x r)
-    (record {
-      within = omega arith;
-      clean = λ a q. rw (ne-eqb x a (omega arith), low .clean a (omega arith));
-      found = λ q. at-end (ℕ-discrete (min x r) x);
-    })
-  where
-    r : ℕ
-    r = lowest f n
-
-    low : Lowest f n r
-    low = lowest-is f n
-
-    at-end : Dec (min x r ≡ x) → (eqb x (min x r) || f (min x r)) ≡ true
-    at-end (yes p) = rw (eq-eqb x (min x r) (sym p))
-    at-end (no p) =
-        let q : min x r ≡ r = omega arith in
-        let w = low .within in
-        rw (q, low .found (omega arith)) (or-true (eqb x r))
 
 -- a test that does not depend on the number
 pub any-and : (f : ℕ → Bool) (b : Bool) (n : ℕ) → any (λ k. f k && b) n ≡ (any f n && b)

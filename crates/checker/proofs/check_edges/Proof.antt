@@ -3,6 +3,7 @@ use mathlib.Core.Path.{sym, _∙_}
 use borrow.Author.Needs.{needs}
 use Rattle.lists.proofs.Search.{clean-of}
 use Rattle.graph.proofs.Edges.{within-of}
+use Rattle.rising.proofs.Rising.{clean-rising}
 use Rattle.checker.proofs.Rules.{broken, kept}
 use Rattle.checker.proofs.check_edges.Statement.{statement}
 use Rattle.checker.proofs.check_edges.Tie as tie
@@ -28,12 +29,15 @@ check-edges-spec =
     (λ c κs.
     let q = c .before .before in
     let p = q .before .before in
-    let entry = p .before .before .before .before in (
-      entry .pre .0,
-      within-of (entry .args .memory .now) _ _ (entry .pre .0 .code-limit) (entry .pre .1)
-          (clean-of _ _ _ (p .before .first-from-no-jump .ensures) (p .if1 .left))
-          (clean-of _ _ _ (q .before .first-outside-code .ensures) (q .if2 .left)),
-    ))
+    let entry = p .before .before .before .before in
+    let from-jumps = clean-of _ _ _ (p .before .first-from-no-jump .ensures) (p .if1 .left) in
+    record {
+      sized = entry .pre .0;
+      within = within-of (entry .args .memory .now) _ _ (entry .pre .0 .code-limit) (entry .pre .1) from-jumps
+          (clean-of _ _ _ (q .before .first-outside-code .ensures) (q .if2 .left));
+      from-jumps = from-jumps;
+      rising = clean-rising (entry .args .edges .now) (clean-of _ _ _ (c .before .first-not-rising .ensures) (c .if3 .left));
+    })
     (λ c.
     let r = c .before in
     let q = r .before .before in

@@ -22,8 +22,8 @@ check-guards-spec =
     let entry = c .before .before .before .before .before .before in
     let first-bare-store = c .before .before .before .first-bare-store in
     let if1 = c .before .before .if1 in (
-      entry .pre .0 .code-limit,
-      entry .pre .0 .code-within,
+      entry .pre .0 .sized .code-limit,
+      entry .pre .0 .sized .code-within,
       record {
         stores = clean-of _ _ _
             (first-bare-store .ensures) (if1 .left);

@@ -2,6 +2,7 @@
 use borrow.Author.Needs.{needs}
 use borrow.Author.Tests.{le-leb, lt-leb}
 use Rattle.guards.specs.Sequences.{endsAt}
+use Rattle.guards.specs.Patterns.{wordAt}
 use Rattle.guards.proofs.Arrays.{slots-length}
 use Rattle.checker.proofs.patterns.ends_at.Statement.{statement}
 use Rattle.checker.proofs.patterns.ends_at.Tie as tie
@@ -15,7 +16,7 @@ ends-at-spec =
     (λ c.
     let entry = c .before .before in
     rw (
-      slots-length (entry .args .words .now) (entry .args .free .now) 0 (entry .args .len),
+      slots-length (λ i. wordAt (entry .args .words .now) (entry .args .place) (entry .args .apart) i) (entry .args .free .now) 0 (entry .args .len),
       lt-leb _ _
           (c .if1 .taken),
     ))
@@ -25,7 +26,7 @@ ends-at-spec =
     (λ c.
     let entry = c .before .before .before in
     rw (
-      slots-length (entry .args .words .now) (entry .args .free .now) 0 (entry .args .len),
+      slots-length (λ i. wordAt (entry .args .words .now) (entry .args .place) (entry .args .apart) i) (entry .args .free .now) 0 (entry .args .len),
       le-leb _ _
           (c .before .if1 .left),
     ) (c .stands-at .ensures)))

@@ -17,18 +17,16 @@ guarded-jump-words-spec =
     (λ c κs. search needs)
     (λ c κs. search needs)
     (λ c κs. search needs)
-    (λ c κs. search needs)
     (λ c.
     rw (
-      c .before .before .before .before .before .before .before .before .before .encode .ensures,
-      c .before .before .before .before .before .before .before .before .encode2 .ensures,
-      c .before .before .before .before .before .before .before .encode3 .ensures,
-      c .before .before .before .before .before .before .encode4 .ensures,
-      c .before .before .before .before .before .encode5 .ensures,
-      c .before .before .before .before .encode6 .ensures,
-      c .before .before .before .encode7 .ensures,
-      c .before .before .encode8 .ensures,
-      c .before .encode9 .ensures,
-      c .encode10 .ensures,
-      c .before .before .before .before .before .before .before .before .before .before .halt-of .ensures,
+      c .before .before .before .before .before .before .before .before .encode .ensures,
+      c .before .before .before .before .before .before .before .encode2 .ensures,
+      c .before .before .before .before .before .before .encode3 .ensures,
+      c .before .before .before .before .before .encode4 .ensures,
+      c .before .before .before .before .encode5 .ensures,
+      c .before .before .before .encode6 .ensures,
+      c .before .before .encode7 .ensures,
+      c .before .encode8 .ensures,
+      c .encode9 .ensures,
+      c .before .before .before .before .before .before .before .before .before .halt-of .ensures,
     )))

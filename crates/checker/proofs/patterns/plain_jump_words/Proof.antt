@@ -13,14 +13,12 @@ plain-jump-words-spec =
     (λ c κs. search needs)
     (λ c κs. search needs)
     (λ c κs. search needs)
-    (λ c κs. search needs)
     (λ c.
     rw (
-      c .before .before .before .before .before .encode .ensures,
-      c .before .before .before .before .encode2 .ensures,
-      c .before .before .before .encode3 .ensures,
-      c .before .before .encode4 .ensures,
-      c .before .encode5 .ensures,
-      c .encode6 .ensures,
-      c .before .before .before .before .before .before .halt-of .ensures,
+      c .before .before .before .before .encode .ensures,
+      c .before .before .before .encode2 .ensures,
+      c .before .before .encode3 .ensures,
+      c .before .encode4 .ensures,
+      c .encode5 .ensures,
+      c .before .before .before .before .before .halt-of .ensures,
     )))

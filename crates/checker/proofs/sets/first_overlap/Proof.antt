@@ -1,10 +1,6 @@
--- `sets::first_overlap` meets its contract: where no jump is uneven none is faulty, and else the suspects are the faulty ones.
-use mathlib.Core.Path.{refl, _∙_}
-use native.Mathlib.Omega.{arith}
-use Rattle.lists.proofs.Search.{lowest-none, clean-of, lowest-ext}
-use Rattle.lists.proofs.Tables.{table-zeros, table-as}
-use Rattle.graph.proofs.Marks.{size-ext}
-use Rattle.graph.proofs.Overlaps.{suspect-overlaps, even-clean}
+-- `sets::first_overlap` meets its contract: all sets were met, and where none clashed no address is contested.
+use mathlib.Core.Path.{refl}
+use Rattle.checker.proofs.TargetSets.{none-broken, overlapped}
 use Rattle.checker.proofs.sets.first_overlap.Statement.{statement}
 use Rattle.checker.proofs.sets.first_overlap.Tie as tie
 
@@ -13,41 +9,16 @@ first-overlap-spec =
     tie.close
     (tie.spec
     (λ c κs.
-    let entry = c .before .before in
-    (entry .pre .0 .small, table-zeros _ (entry .pre .0 .small)))
-    (λ c κs.
-    let entry = c .before .before .before .before .before in
-    (entry .pre .0, table-zeros _ (entry .pre .0 .small), refl))
-    (λ c κs.
-    let entry = c .before .before .before .before .before .before .before .before .before in
-    let class-sizes = c .before .before .before .before .before .before .class-sizes in
-    let link = c .before .before .before .link in
-    record {
-      within = entry .pre .0;
-      ids = entry .pre .1;
-      owners = entry .pre .2;
-      sizes = table-as _
-          (class-sizes .ensures) (λ s l. size-ext _ _ _ s (λ t q. entry .pre .2 .each t q));
-      lasts = link .ensures .lasts;
-      links = link .ensures .links;
-    })
+    let p = c .before .before .before .pre in
+    (p .0, p .1, p .2, refl))
     (λ c.
-    let entry = c .before .before .before .before .before .before .before .before .before .before .before in
-    lowest-none _ _ _ refl (even-clean _ _ (entry .pre .0) (clean-of _ _ _ (c .before .first-uneven .ensures)
-    (omega arith))))
+    let p = c .before .before .before .before .before .pre in
+    let all = c .before .put-sets .ensures in
+    overlapped _ _ (p .0) _ (all .met) _
+    (none-broken _ _ (p .0) _ (all .met) (λ i l. all .calm (c .if1 .taken) _ (p .0 .targets i l))))
     (λ c κs.
-    let entry = c .before .before .before .before .before .before .before .before .before .before .before .before .before .before in
-    let class-sizes = c .before .before .before .before .before .before .before .before .before .before .before .class-sizes in
-    let link = c .before .before .before .before .before .before .before .before .link in
-    record {
-      within = entry .pre .0;
-      ids = entry .pre .1;
-      owners = entry .pre .2;
-      sizes = table-as _
-          (class-sizes .ensures) (λ s l. size-ext _ _ _ s (λ t q. entry .pre .2 .each t q));
-      lasts = link .ensures .lasts;
-      links = link .ensures .links;
-    })
+    let p = c .before .before .before .before .before .before .pre in
+    (p .0, p .1, c .before .before .put-sets .ensures .met))
     (λ c.
-    let entry = c .before .before .before .before .before .before .before .before .before .before .before .before .before .before .before in
-    c .first-beside-uneven .ensures ∙ lowest-ext _ _ _ (λ a l. suspect-overlaps _ _ (entry .pre .0) a)))
+    let p = c .before .before .before .before .before .before .before .pre in
+    overlapped _ _ (p .0) _ (c .before .before .before .put-sets .ensures .met) _ (c .first-contested .ensures)))
