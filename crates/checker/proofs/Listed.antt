@@ -1,16 +1,17 @@
 -- The claim as tests and as facts: each test of the graph holds exactly where its fact does, by the place that the search found.
 use Prim.Native.Nat.{ℕ, _≤_, _<_}
 use mathlib.Core.Path.{_≡_, refl}
-use mathlib.Core.Bool.{Bool, true, _&&_}
+use mathlib.Core.Bool.{Bool, true}
 use mathlib.Core.List.{List}
 use native.Mathlib.Omega.{arith}
 use native.Mathlib.Decide.{decLt}
 use lib.Dec.{eqb}
 use borrow.Author.Tests.{eqb-true, eq-eqb}
 use Rattle.lists.specs.Search.{lowest}
-use Rattle.lists.proofs.Bools.{and-left, and-right, both-true, true-false}
+use Rattle.lists.proofs.Bools.{true-false}
 use Rattle.lists.proofs.Search.{lowest-is, any-hit, any-witness}
 use Rattle.graph.specs.Claim.{edgeCount, jumpOf, targetOf, isEdge, hasEdge, isDestination, idOf}
+use Rattle.graph.proofs.Edges.{edge-at, edge-of}
 use Rattle.checker.specs.Conditions.{Listed, IsId}
 
 -- what passes a test is no lower than the lowest that does
@@ -23,21 +24,10 @@ lowest-below f n k e = go (decLt k (lowest f n))
 
 module _ (edges : List ℕ) where
   pub edge-listed : (j a : ℕ) → isEdge edges j a ≡ true → Listed edges j a
-  unfolding isEdge
-  edge-listed j a e =
-      let w = any-witness (λ k. eqb (jumpOf edges k) j && eqb (targetOf edges k) a) (edgeCount edges) e in
-      record {
-        place = w .0;
-        within = w .1;
-        jump = eqb-true (jumpOf edges (w .0)) j (and-left _ _ (w .2));
-        target = eqb-true (targetOf edges (w .0)) a (and-right (eqb (jumpOf edges (w .0)) j) _ (w .2));
-      }
+  edge-listed j a e = let v = edge-of edges 0 j a e in record { place = v .0; within = v .1; jump = v .2; target = v .3 }
 
   pub listed-edge : (j a : ℕ) → Listed edges j a → isEdge edges j a ≡ true
-  unfolding isEdge
-  listed-edge j a l =
-      any-hit (λ k. eqb (jumpOf edges k) j && eqb (targetOf edges k) a) (edgeCount edges) (l .place) (l .within)
-      (both-true (eq-eqb (jumpOf edges (l .place)) j (l .jump)) (eq-eqb (targetOf edges (l .place)) a (l .target)))
+  listed-edge j a l = rw (← l .jump, ← l .target) (edge-at edges 0 (l .place) (l .within))
 
   pub has-listed : (j : ℕ) → hasEdge edges j ≡ true → (a : ℕ) × Listed edges j a
   unfolding hasEdge

@@ -43,7 +43,10 @@ stretch-more P k m h p i l q = go (ℕ-discrete i m)
     go (yes e) = subst P (sym e) p
     go (no ne) = h i l (omega (arith, ne))
 
--- the edge at which it starts is in a run
+-- a run of the jump of edge k, which is in it
+pub run-at : (edges : List ℕ) {j : ℕ} (k end : ℕ) → j ≡ jumpOf edges k → Run edges j k end → Run edges (jumpOf edges k) k end
+run-at edges k end e run = subst (λ (x : ℕ). Run edges x k end) e run
+
 pub run-some : (edges : List ℕ) (k end : ℕ) → Run edges (jumpOf edges k) k end → k < edgeCount edges → k < end
 run-some edges k end run h =
     ⊎-elim
@@ -116,6 +119,10 @@ module _ (edges : List ℕ) (r : Rising edges) where
       go : Above edges i k → jumpOf edges i ≤ jumpOf edges k
       go (inl p) = omega arith
       go (inr p) = omega (arith, p .0)
+
+  -- an edge of a lower jump stands before
+  pub lower-before : (i k : ℕ) → i < edgeCount edges → jumpOf edges i < jumpOf edges k → i < k
+  lower-before i k h l = let p : k ≤ i → ⊥ = λ q. omega (arith, jumps-rise k i q h) in omega (arith, p)
 
   -- a cut at the jump of the edge itself
   pub cut-at : (a k : ℕ) → Cut edges a k → k < edgeCount edges → Cut edges (jumpOf edges k) k

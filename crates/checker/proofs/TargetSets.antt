@@ -14,7 +14,7 @@ use lib.Seq.{getD-set-same, getD-set-other}
 use Rattle.lists.specs.Search.{lowest, count}
 use Rattle.lists.specs.Tables.{Table}
 use Rattle.lists.proofs.Bools.{and-left, and-right, both-true, true-false, refuted, upheld}
-use Rattle.lists.proofs.Search.{Clean, lowest-is, lowest-at, lowest-none, lowest-ext, clean-of, any-hit}
+use Rattle.lists.proofs.Search.{Clean, lowest-is, lowest-at, lowest-none, lowest-ext, clean-of}
 use Rattle.lists.proofs.Counts.{count-ext, count-eq}
 use Rattle.graph.specs.Claim.{edgeCount, jumpOf, targetOf, isEdge, isDestination, idOf}
 use Rattle.graph.specs.Rules.{overlaps}
@@ -23,7 +23,8 @@ use Rattle.graph.proofs.Edges.{edge-at, edge-of, edge-below, id-hit}
 use Rattle.graph.proofs.Apart.{apart-one, one-apart}
 use Rattle.rising.specs.Rising.{Rising}
 use Rattle.checker.specs.Passes.{EdgesOf, Met, Put, Fits, Told, OwnedBy, Judged, SetPut, Overlapped}
-use Rattle.checker.proofs.Runs.{jumps-rise, own-edge}
+use Rattle.checker.proofs.Listed.{edge-listed, listed-destination}
+use Rattle.checker.proofs.Runs.{lower-before, own-edge}
 
 -- what a test says, its answer being known
 pub told : (A B : Type 0) {r b : Bool} → r ≡ b → Told r A B → Told b A B
@@ -363,8 +364,7 @@ module _ (edges : List ℕ) (n : ℕ) (w : Within edges n) where
         lowest-at (overlaps edges n) n (jumpOf edges k) (w .jumps k l)
         (λ j q. uncontested-kept j λ t h z.
         let v = edge-of edges n j t h in
-        let before : v .0 < k = let p : k ≤ v .0 → ⊥ = λ y. omega (arith, jumps-rise edges r k (v .0) y (v .1), v .2, q) in omega (arith, p) in
-        none (v .0) before (ap (λ (u : ℕ). getD own u 0) (v .3) ∙ z))
+        none (v .0) (lower-before edges r (v .0) k (v .1) (omega (arith, v .2, q))) (ap (λ (u : ℕ). getD own u 0) (v .3) ∙ z))
         (contested-broken (jumpOf edges k) (targetOf edges k) (edge-at edges n k l) e)
 
     pub none-broken : ((i : ℕ) → i < edgeCount edges → getD own (targetOf edges i) 0 ≢ n + 1) → n ≡ lowest (overlaps edges n) n
@@ -384,15 +384,13 @@ module _ (edges : List ℕ) (n : ℕ) (w : Within edges n) where
         (met .held (jumpOf edges k) (targetOf edges k) b h)
 
     free : (t : ℕ) → t < n → isDestination edges t ≡ false → getD own t 0 ≡ n
-    unfolding isDestination
     free t l d = go (ℕ-discrete (getD own t 0) n)
       where
         go : Dec (getD own t 0 ≡ n) → getD own t 0 ≡ n
         go (yes e) = e
         go (no ne) =
             let v = met .taken t l ne in
-            let k = edge-of edges n (v .0) t (v .2) in
-            absurd (true-false (any-hit (λ k. eqb (targetOf edges k) t) (edgeCount edges) (k .0) (k .1) (eq-eqb _ _ (k .3))) d)
+            absurd (true-false (listed-destination edges (v .0) t (edge-listed edges (v .0) t (v .2))) d)
 
     pub overlapped : (r : ℕ) → r ≡ lowest (overlaps edges n) n → Overlapped r edges n own
     overlapped r e =

@@ -1,14 +1,14 @@
 -- `sets::put_sets` meets its contract: the sets of the jumps whose edges were passed are in the arrays.
 use Prim.Native.Nat.{ℕ, _+_, _-_, _<_, _≤_}
-use mathlib.Core.Path.{_≡_, sym, subst, _∙_}
+use mathlib.Core.Path.{_≡_, sym, _∙_}
 use mathlib.Core.Logic.{_≢_}
 use mathlib.Core.Bool.{true}
 use native.Mathlib.Omega.{arith}
 use borrow.Author.Needs.{needs}
 use lib.ListN.{getD}
 use Rattle.lists.proofs.Bools.{and-left, and-right}
-use Rattle.checker.specs.Passes.{Run, Put}
-use Rattle.checker.proofs.Runs.{Cut, run-some, cut-none, cut-at, cut-run, cut-between, jumps-rise, edges-of}
+use Rattle.checker.specs.Passes.{Put}
+use Rattle.checker.proofs.Runs.{Cut, run-at, run-some, cut-none, cut-at, cut-run, cut-between, jumps-rise, edges-of}
 use Rattle.checker.proofs.TargetSets.{put-none, put-skip}
 use Rattle.checker.proofs.sets.put_sets.Statement.{statement}
 use Rattle.checker.proofs.sets.put_sets.Tie as tie
@@ -40,7 +40,7 @@ put-sets-spec =
     let within = entry .pre .0 in
     let rising = entry .pre .1 in
     let cut = cut-at _ rising _ _ (loop .inv .2) (test .taken) in
-    let run = subst (λ (j : ℕ). Run (entry .args .edges .now) j (loop .k) (run-end .result)) (jump-of .ensures .is) (run-end .ensures) in (
+    let run = run-at (entry .args .edges .now) _ _ (jump-of .ensures .is) (run-end .ensures) in (
       within,
       edges-of _ rising _ within _ _ cut run (test .taken),
       put-skip _ _ within _ _ _ _ (loop .inv .2 .above (loop .k) (omega arith) (test .taken))
@@ -54,7 +54,7 @@ put-sets-spec =
     let test = c .before .before .before .before .before .before .loop-test in
     let jump-of = c .before .before .before .before .before .jump-of in
     let run-end = c .before .before .before .before .run-end in
-    let run = subst (λ (j : ℕ). Run (entry .args .edges .now) j (loop .k) (run-end .result)) (jump-of .ensures .is) (run-end .ensures) in
+    let run = run-at (entry .args .edges .now) _ _ (jump-of .ensures .is) (run-end .ensures) in
     omega (arith, run-some _ _ _ run (test .taken), run .upto))
     (λ c.
     let entry = c .before .before .before .before .before .before .before .before .before in
@@ -63,7 +63,7 @@ put-sets-spec =
     let jump-of = c .before .before .before .before .before .jump-of in
     let run-end = c .before .before .before .before .run-end in
     let put-set = c .before .put-set in
-    let run = subst (λ (j : ℕ). Run (entry .args .edges .now) j (loop .k) (run-end .result)) (jump-of .ensures .is) (run-end .ensures) in (
+    let run = run-at (entry .args .edges .now) _ _ (jump-of .ensures .is) (run-end .ensures) in (
       _,
       omega (arith, entry .pre .0 .jumps (loop .k) (test .taken)),
       cut-run _ (entry .pre .1) _ _ _ (cut-at _ (entry .pre .1) _ _ (loop .inv .2) (test .taken)) run,

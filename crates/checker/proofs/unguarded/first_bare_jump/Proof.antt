@@ -1,14 +1,13 @@
 -- `unguarded::first_bare_jump` meets its contract: no jmp whose edges were passed is faulty.
 use Prim.Native.Nat.{ℕ, _-_, _<_}
-use mathlib.Core.Path.{_≡_, sym, subst, _∙_}
+use mathlib.Core.Path.{_≡_, sym, _∙_}
 use mathlib.Core.Bool.{false}
 use native.Mathlib.Omega.{arith}
 use borrow.Author.Needs.{needs}
 use borrow.Author.Tests.{not-true, not-false}
 use Rattle.graph.specs.Claim.{jumpOf}
 use Rattle.guards.specs.Rules.{jumpUnguarded}
-use Rattle.checker.specs.Passes.{Run}
-use Rattle.checker.proofs.Runs.{Cut, run-some, cut-none, cut-at, cut-run}
+use Rattle.checker.proofs.Runs.{Cut, run-at, run-some, cut-none, cut-at, cut-run}
 use Rattle.checker.proofs.GuardedJumps.{guarded-more, first-bare, none-bare}
 use Rattle.checker.proofs.unguarded.first_bare_jump.Statement.{statement}
 use Rattle.checker.proofs.unguarded.first_bare_jump.Tie as tie
@@ -55,7 +54,7 @@ first-bare-jump-spec =
     let loop = c .before .before .before .before .before .before .before .loop in
     let test = c .before .before .before .before .before .before .loop-test in
     let jump-of = c .before .before .before .before .before .jump-of in
-    let run = subst (λ (j : ℕ). Run (entry .args .edges .now) j (loop .k) (c .run-end .result)) (jump-of .ensures .is) (c .run-end .ensures) in
+    let run = run-at (entry .args .edges .now) _ _ (jump-of .ensures .is) (c .run-end .ensures) in
     omega (arith, run-some _ _ _ run (test .taken), run .upto))
     (λ c.
     let entry = c .before .before .before .before .before .before .before .before .before .before .before in
@@ -66,7 +65,7 @@ first-bare-jump-spec =
     let guarded = c .before .before .is-guarded-jump in
     let claim = entry .pre .0 in
     let cut = cut-at _ (claim .rising) _ _ (loop .inv .0 .1) (test .taken) in
-    let run = subst (λ (j : ℕ). Run (entry .args .edges .now) j (loop .k) (c .run-end .result)) (jump-of .ensures .is) (c .run-end .ensures) in (
+    let run = run-at (entry .args .edges .now) _ _ (jump-of .ensures .is) (c .run-end .ensures) in (
       (_, cut-run _ (claim .rising) _ _ _ cut run),
       guarded-more (entry .args .technique) _ _ _ claim _ _ cut (test .taken) run
           (rw (← target-of .ensures .is, ← jump-of .ensures .is) (sym (guarded .ensures) ∙ not-false (guarded .result) (c .before .if1 .left)))
