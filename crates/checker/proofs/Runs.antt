@@ -43,7 +43,7 @@ stretch-more P k m h p i l q = go (ℕ-discrete i m)
     go (yes e) = subst P (sym e) p
     go (no ne) = h i l (omega (arith, ne))
 
--- a run of the jump of edge k, which is in it
+-- a run by the jump of edge k; that edge is in it
 pub run-at : (edges : List ℕ) {j : ℕ} (k end : ℕ) → j ≡ jumpOf edges k → Run edges j k end → Run edges (jumpOf edges k) k end
 run-at edges k end e run = subst (λ (x : ℕ). Run edges x k end) e run
 
@@ -54,7 +54,7 @@ run-some edges k end run h =
     (λ q. q)
     (eq-or-lt-of-le (run .from))
 
--- the first m edges, where all of jump j are from k to m
+-- where all edges of the jump of edge k are from k to `end`
 module _ (edges : List ℕ) (n k end : ℕ) (upto : end ≤ edgeCount edges)
     (all : (i : ℕ) → i < edgeCount edges → jumpOf edges i ≡ jumpOf edges k → (k ≤ i) × (i < end)) where
   pub none-before : k ≤ end → (t : ℕ) → edgeIn edges k (jumpOf edges k) t ≡ false

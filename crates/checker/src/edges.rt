@@ -3,7 +3,6 @@ ghost use mathlib.Core.Path.{_≡_};
 ghost use Prim.Native.Nat.{_<_, _≤_};
 ghost use lib.ListN.{length};
 ghost use Rattle.lists.specs.Search.{lowest};
-ghost use Rattle.lists.specs.Tables.{Table};
 ghost use Rattle.graph.specs.Claim.{edgeCount, jumpOf, targetOf};
 ghost use Rattle.graph.specs.Rules.{startsAtNoJump, endsOutsideCode, lacksEdge};
 ghost use Rattle.graph.specs.Passes.{Within, Is};

@@ -39,8 +39,8 @@ fn put_sets(edges: &[u16], n: usize, own: &mut [u16; 2048], size: &mut [u16; 204
     while k < m {
         let j = jump_of(edges, n, k);
         let end = run_end(edges, k, j);
-        let this = put_set(edges, n, k, end, own, size);
-        fitting = both(fitting, this);
+        let it_fits = put_set(edges, n, k, end, own, size);
+        fitting = both(fitting, it_fits);
         k = end;
     }
     fitting
