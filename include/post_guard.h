@@ -63,7 +63,8 @@ extern "C" {
 /* Stops: why a step cannot be made. pg_step and pg_run answer them. */
 #define PG_STOP_FETCH 1   /* the pc is outside code (plain) or outside memory (with memory guards) */
 #define PG_STOP_ILLEGAL 2 /* the word at the pc is illegal */
-#define PG_STOP_ACCESS 3  /* a load outside memory, or a store outside data (plain) or outside memory */
+#define PG_STOP_ACCESS 3  /* a load outside memory, or a store outside data (plain) or outside memory; an address is the exact sum
+                           * of the register and w, and one of 2^64 or more is outside */
 #define PG_STOP_NEXT 4    /* plain only: the next pc is outside code; in an accepted program, at a jmp only */
 
 /* Refusals: why a call is turned away. 1 to 4 come from the calls that read a parcel (pg_read_parcel, pg_report_parcel and

@@ -125,14 +125,14 @@ fn advance(technique: Technique, state: &mut State, memory: &mut [u64], n: usize
         Op::Jd(w) => next = u64::from(w),
         Op::Jmp(rs) => next = state.regs[rs as usize],
         Op::Ld(rd, rs, w) => {
-            let address = state.regs[rs as usize].wrapping_add(u64::from(w));
+            let Some(address) = state.regs[rs as usize].checked_add(u64::from(w)) else { return 3 };
             if address >= memory.len() as u64 {
                 return 3;
             }
             register = Some((rd, memory[address as usize]));
         }
         Op::St(rd, rs, w) => {
-            let address = state.regs[rd as usize].wrapping_add(u64::from(w));
+            let Some(address) = state.regs[rd as usize].checked_add(u64::from(w)) else { return 3 };
             let start = if plain { n as u64 } else { 0 };
             if address < start || address >= memory.len() as u64 {
                 return 3;

@@ -223,7 +223,8 @@ pub enum Stop {
     Fetch = 1,
     /// The word at the pc is illegal.
     Illegal = 2,
-    /// A load outside memory, or a store outside data, or, with memory guards, outside memory.
+    /// A load outside memory, or a store outside data, or, with memory guards, outside memory. The address is the exact sum of the
+    /// register and w: one of 2^64 or more is outside.
     Access = 3,
     /// Plain only: the next pc is outside code. An accepted program meets it at a jmp only.
     Next = 4,

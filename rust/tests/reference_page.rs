@@ -114,6 +114,8 @@ fn examples_get_the_verdicts_worked_out_by_hand() {
         ("register-32", edge(EdgeFromNoJump, 0), edge(EdgeFromNoJump, 0)),
         // {13, 15} of the jmp at 6 and {13} of the jmp at 12 share 13 and differ
         ("shared-label", address(TargetSetsOverlap, 6), address(TargetSetsOverlap, 6)),
+        // plain, the st stops when it is run; with memory guards the st at 2 has no guard
+        ("store-past-top", Verdict::Accepted, address(StoreUnguarded, 2)),
         // jmp r5 is not jmp r0
         ("target-read-again", address(JumpUnguarded, 6), address(JumpUnguarded, 6)),
     ];

@@ -174,6 +174,67 @@ fn sums_and_addresses_at_the_ends() {
     }
 }
 
+/// Loads and stores at both ends of 64 bits and of memory: "For ld and st the sum is exact, and one of two to the 64 or more is stop
+/// 3." The sum is made once more here, on 128 bits. At the last code word a plain step that could be made gives stop 4: 3 comes first.
+#[test]
+fn exact_addresses_at_the_ends() {
+    use reference::Op;
+    let mut r = Random::new(19);
+    let mut seen = std::collections::HashMap::new();
+    for (n, len) in [(1, 1), (1, 2), (6, 6), (6, 7), (6, 9), (2048, 4096)] {
+        let around: Vec<u64> = [0, n, len].into_iter().flat_map(|end: u64| end.saturating_sub(2)..=end + 2).collect();
+        let displacements: Vec<u32> = [0, 1, u32::MAX].into_iter().chain(around.iter().map(|&a| a as u32)).collect();
+        // 2^64 - v and 2^64 - v - 1 for every displacement v
+        let high = displacements.iter().flat_map(|&v| [u64::from(v).wrapping_neg(), u64::MAX - u64::from(v)]);
+        let bases: Vec<u64> = [0, 1, u32::MAX.into(), u64::MAX].into_iter().chain(high).chain(around.iter().copied()).collect();
+        for &w in &displacements {
+            // and those whose sum modulo 2^64 would be an address around n or the end of memory
+            let round = around.iter().map(|a| a.wrapping_sub(w.into()));
+            for base in bases.iter().copied().chain(round) {
+                for (op, stores) in [(Op::Ld(3, 4, w), false), (Op::St(4, 5, w), true)] {
+                    for technique in TECHNIQUES {
+                        for pc in [0, n - 1] {
+                            let mut memory: Vec<u64> = (0..len).map(|_| r.word()).collect();
+                            memory[pc as usize] = reference::encode(op);
+                            let mut regs = registers(&mut r, len as usize);
+                            regs[4] = base;
+                            let plain = technique == Technique::Plain;
+                            let allowed = if plain && stores { n.into()..len.into() } else { 0..u128::from(len) };
+                            let exact = u128::from(base) + u128::from(w);
+                            let expected = if !allowed.contains(&exact) {
+                                3
+                            } else if plain && pc + 1 == n {
+                                4
+                            } else {
+                                0
+                            };
+                            let mut both = Both::new(regs, pc, &memory, 33);
+                            let number = number_for(&mut r, technique);
+                            let answer = both.step(technique, number, n as usize);
+                            assert_eq!(answer, expected, "{op:?} at {pc}, base {base:#x}, n {n}, {len} words");
+                            both.compare("a load or a store at the ends");
+                            if answer != 0 {
+                                assert_eq!((both.memory[..len as usize].to_vec(), both.state[32]), (memory, pc), "{op:?}");
+                            }
+                            let came_round = exact >= 1 << 64 && allowed.contains(&(exact % (1 << 64)));
+                            *seen.entry((stores, plain, answer, came_round)).or_insert(0) += 1;
+                        }
+                    }
+                }
+            }
+        }
+    }
+    // every kind of end came up, those that would come round modulo 2^64 among them
+    for stores in [false, true] {
+        for plain in [false, true] {
+            assert!(seen.contains_key(&(stores, plain, 0, false)), "made: {seen:?}");
+            assert!(seen.contains_key(&(stores, plain, 3, false)), "stopped: {seen:?}");
+            assert!(seen.contains_key(&(stores, plain, 3, true)), "stopped, and would come round: {seen:?}");
+        }
+        assert!(seen.contains_key(&(stores, true, 4, false)), "stop 4: {seen:?}");
+    }
+}
+
 #[test]
 fn shapes() {
     let mut r = Random::new(13);

@@ -37,10 +37,6 @@ pub word-same : (m memory : List ℕ) (n a : ℕ) → take n m ≡ take n memory
 word-same m memory n a e h =
     sym (getD-take n m a 0 h) ∙ ap (λ (l : List ℕ). getD l a 0) e ∙ getD-take n memory a 0 h
 
-pub address-small : (x w : ℕ) → x + w < 2 ^ 64 → addressOf x w ≡ x + w
-unfolding addressOf
-address-small x w h = omega arith
-
 -- where a jmp is let go is in code: plain, by the step's own test; with memory guards, by what its guard has shown
 pub in-bounds : (t : Technique) (n q : ℕ) → nextAllowed t n q ≡ true → (t ≡ Technique.MemoryGuards → q < n) → q < n
 in-bounds Technique.Plain n q e h = ltb-true q n e
@@ -145,5 +141,4 @@ module _ (t : Technique) (memory : List ℕ) (n : ℕ) (edges : List ℕ) (ok : 
           let rd0 : rd ≡ 0 = cc in
           let w0 : w ≡ 0 = cc in
           let same = getD-take 3 regs 0 0 (lit< tt) in
-          let there = address-small (regOf (c .state) 0) 0 (omega (arith, k .0, sizes .code-limit, sizes .data-limit)) in
           rw (rd0, w0) (omega (arith, k .1), omega (arith, k .0, sizes .some-code, sizes .within))

@@ -3,7 +3,7 @@ use Prim.Native.Nat.{ℕ}
 use mathlib.Core.Path.{refl}
 use Rattle.lists.specs.Search.{lowest, any}
 use Rattle.isa.specs.Words.{decodeOf, encodeOf, wordOf}
-use Rattle.machine.specs.Steps.{addressOf, loadOf, storeOf, effectOf, settleOf, intentOf, afterOf, memoryAfter, stepOf, stepMemory}
+use Rattle.machine.specs.Steps.{loadOf, storeOf, effectOf, settleOf, intentOf, afterOf, memoryAfter, stepOf, stepMemory}
 use Rattle.machine.specs.Bus.{writeDataMemory, writeRegisterOf}
 use Rattle.machine.specs.Runs.{runFrom, runMemoryFrom, runOf, runMemory}
 use Rattle.graph.specs.Claim.{isEdge, hasEdge, isDestination, idOf}
@@ -17,11 +17,11 @@ unfolding verdictOf firstBroken lowest any isEdge hasEdge isDestination idOf fit
 programs-accepted = record { post = refl; guards = λ d. refl }
 
 pub calls-made : (r : ℕ → ℕ) (d : ℕ) → CallsMade r d
-unfolding decodeOf encodeOf wordOf addressOf loadOf storeOf effectOf settleOf intentOf afterOf memoryAfter stepOf stepMemory writeDataMemory writeRegisterOf runFrom runMemoryFrom runOf runMemory
+unfolding decodeOf encodeOf wordOf loadOf storeOf effectOf settleOf intentOf afterOf memoryAfter stepOf stepMemory writeDataMemory writeRegisterOf runFrom runMemoryFrom runOf runMemory
 calls-made r d = record { post-steps = refl; post-ends = refl; guarded-steps = refl; guarded-stores = refl }
 
 pub stop-four-shown : (r : ℕ → ℕ) → StopFourShown r
-unfolding verdictOf firstBroken lowest any isEdge hasEdge isDestination idOf fits standsAt endsAt insideJumpGuard insideStoreGuard decodeOf encodeOf wordOf addressOf loadOf storeOf effectOf settleOf intentOf afterOf memoryAfter stepOf stepMemory writeRegisterOf runFrom runMemoryFrom runOf runMemory
+unfolding verdictOf firstBroken lowest any isEdge hasEdge isDestination idOf fits standsAt endsAt insideJumpGuard insideStoreGuard decodeOf encodeOf wordOf loadOf storeOf effectOf settleOf intentOf afterOf memoryAfter stepOf stepMemory writeRegisterOf runFrom runMemoryFrom runOf runMemory
 stop-four-shown r =
     record {
       branch-to-last = refl;

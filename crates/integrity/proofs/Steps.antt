@@ -50,7 +50,6 @@ use Rattle.guards.proofs.Replay.{view, view-set, Falls, Fallen}
 use Rattle.integrity.proofs.Inside.{Inside, Inv, inside-no-label}
 use Rattle.integrity.proofs.Keeps.{
   word-same,
-  address-small,
   in-bounds,
   not-inner,
   sizes,
@@ -142,8 +141,7 @@ module _ (t : Technique) (code checked edges : List ℕ) (ok : Conditions t (cod
           → getD (c .memory) (addressOf (reg rs) w) 0 ≡ getD memory (getD (view regs) rs 0 + w) 0
       found h q =
           let s = getD-take 3 regs rs 0 h in
-          let small = address-small (reg rs) w (omega (arith, sizes t memory n edges ok c inv .code-limit)) in
-          rw (small, s) (word-same (c .memory) memory n (reg rs + w) (inv .code-same) (omega arith))
+          rw s (word-same (c .memory) memory n (reg rs + w) (inv .code-same) (omega arith))
 
       go : (b : Bool)
           → Tells (Instr.Ld rd rs w)

@@ -42,9 +42,10 @@ stateOf regs pc = record { regs = regs; pc = pc }
 abbrev pub sumOf : ℕ → ℕ → ℕ
 sumOf x y = (x + y) % 2 ^ 64
 
--- "so are the addresses of ld and st"
-unfoldable pub addressOf : ℕ → ℕ → ℕ
-addressOf base w = (base + w) % 2 ^ 64
+-- "For ld and st the sum is exact" (document 02, K5): the figures' words have no top. One "of two to the 64 or more is stop 3" by
+-- `loadOf` and `storeOf`, as no memory reaches so far.
+abbrev pub addressOf : ℕ → ℕ → ℕ
+addressOf base w = base + w
 
 -- "bgt compares unsigned"
 abbrev pub branchOf : ℕ → ℕ → ℕ → ℕ → ℕ

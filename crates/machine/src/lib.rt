@@ -14,7 +14,7 @@ ghost use Rattle.machine.specs.Steps.{fetchEnd, storeStart, nextAllowed,
 ghost use Rattle.machine.specs.Bus.{WritesData, WritesRegister};
 ghost use Rattle.machine.specs.Runs.{Runs};
 ghost use Rattle.machine.specs.Lent.{RunsLent, WritesRegisterLent};
-ghost use Rattle.machine.specs.Inside.{InRange, Carried, RanOver, endingBy, outcomeBy, PutsRegister};
+ghost use Rattle.machine.specs.Inside.{InRange, accessAt, accessed, Carried, RanOver, endingBy, outcomeBy, PutsRegister};
 use answers::Refusal;
 use isa::Instr;
 use isa::Technique;
@@ -216,6 +216,12 @@ pub enum Effect {
     Stop(Stop),
 }
 
+// Where a load or a store goes: an exact sum of 2^64 or more is the address of no word.
+enum Access {
+    At(u64),
+    PastTop,
+}
+
 // Where a step goes, or why it cannot be made.
 enum Moved {
     To(u64),
@@ -320,7 +326,7 @@ fn effect_of(
     pc: u64,
     i: Instr,
 ) -> Effect
-    requires { ⌜ Registers i × (pc < 4096) × (length (now regs) ≡ 32) ⌝ }
+    requires { ⌜ Registers i × (pc < 4096) × (length (now regs) ≡ 32) × (length (now memory) ≤ 4096) ⌝ }
     ensures { λ r. ⌜ r ≡ settleOf technique n (effectOf technique n (now (memory .entry)) (stateOf (now (regs .entry)) pc) i) ⌝ }
 {
     let next = pc + 1;
@@ -388,11 +394,15 @@ fn next_allowed(technique: Technique, n: usize, next: u64) -> bool
     }
 }
 
-// The address of a load or a store.
-fn address(base: u64, w: u32) -> u64
-    ensures { λ r. ⌜ r ≡ addressOf base w ⌝ }
+// The exact sum, tested before it is made.
+fn address(base: u64, w: u32) -> Access
+    ensures { λ r. ⌜ r ≡ accessAt (addressOf base w) ⌝ }
 {
-    std::num::wrapping_add_u64(base, wide(w))
+    let displacement = wide(w);
+    if base <= 0xffff_ffff_ffff_ffff - displacement {
+        return Access::At(base + displacement);
+    }
+    Access::PastTop
 }
 
 fn branch(x: u64, y: u64, w: u64, next: u64) -> u64
@@ -416,10 +426,13 @@ fn set_register(technique: Technique, n: usize, rd: u8, value: u64, next: u64) -
     )
 }
 
-fn load(technique: Technique, memory: &[u64], n: usize, rd: u8, address: u64, next: u64) -> Effect
-    ensures { λ r. ⌜ r ≡ settleOf technique n (loadOf (now (memory .entry)) rd address next) ⌝ }
+fn load(technique: Technique, memory: &[u64], n: usize, rd: u8, access: Access, next: u64) -> Effect
+    ensures { λ r. ⌜ r ≡ settleOf technique n (accessed access (λ a. loadOf (now (memory .entry)) rd a next)) ⌝ }
 {
-    let at = address as usize;
+    let Access::At(exact) = access else {
+        return Effect::Stop(Stop::Access);
+    };
+    let at = exact as usize;
     if at < memory.len() {
         return set_register(technique, n, rd, memory[at], next);
     }
@@ -430,20 +443,23 @@ fn store(
     technique: Technique,
     memory: &[u64],
     n: usize,
-    address: u64,
+    access: Access,
     value: u64,
     next: u64,
 ) -> Effect
-    ensures { λ r. ⌜ r ≡ settleOf technique n (storeOf technique n (now (memory .entry)) address value next) ⌝ }
+    ensures { λ r. ⌜ r ≡ settleOf technique n (accessed access (λ a. storeOf technique n (now (memory .entry)) a value next)) ⌝ }
 {
-    let at = address as usize;
+    let Access::At(exact) = access else {
+        return Effect::Stop(Stop::Access);
+    };
+    let at = exact as usize;
     if at < store_start(technique, n) {
         return Effect::Stop(Stop::Access);
     }
     if at < memory.len() {
         return effect_if(
             next_allowed(technique, n, next),
-            Effect::PutWord(address, value, next),
+            Effect::PutWord(exact, value, next),
         );
     }
     Effect::Stop(Stop::Access)

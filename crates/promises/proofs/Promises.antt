@@ -1,6 +1,6 @@
 -- Every promise is kept: each field is the proof that its own crate has.
 use Rattle.isa.proofs.Words.{round-trips}
-use Rattle.machine.proofs.Theorems.{unmade-changes-nothing, step-then-run}
+use Rattle.machine.proofs.Theorems.{unmade-changes-nothing, past-top-stops, step-then-run}
 use Rattle.checker.proofs.Equivalence.{accepted-exactly}
 use Rattle.integrity.proofs.Demand.{demand-3, stop-four-at-jumps}
 use Rattle.integrity.proofs.Traversal.{run-is-its-steps}
@@ -10,6 +10,7 @@ use Rattle.parcel.proofs.Calls.{written-where-rising, read-after-write, write-a
 use Rattle.line.proofs.Theorems.{prefix-suffices}
 use Rattle.line.proofs.Canonical.{accepted-parcels-canonical}
 use Rattle.table.proofs.Table.{table}
+use Rattle.table.proofs.PastTop.{past-top-shown}
 use Rattle.report.proofs.ByKind.{kinds-add-up}
 use Rattle.report.proofs.AsListed.{edges-as-listed}
 use Rattle.report.proofs.Examples.{reports-shown}
@@ -47,5 +48,7 @@ kept =
       accepted-parcels-canonical = accepted-parcels-canonical;
       written-where-rising = written-where-rising;
       edges-as-listed = edges-as-listed;
+      past-top-stops = past-top-stops;
+      past-top-shown = past-top-shown;
       rows = table;
     }

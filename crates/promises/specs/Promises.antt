@@ -9,7 +9,7 @@ use mathlib.Core.List.{List}
 use Rattle.isa.specs.declared.Technique.{Technique}
 use Rattle.isa.specs.Theorems.{RoundTrips}
 use Rattle.machine.specs.declared.State.{State}
-use Rattle.machine.specs.Theorems.{UnmadeChangesNothing, StepThenRun}
+use Rattle.machine.specs.Theorems.{UnmadeChangesNothing, PastTopStops, StepThenRun}
 use Rattle.checker.specs.Theorems.{AcceptedExactly}
 use Rattle.integrity.specs.Demand.{Demand3, StopFourAtJumps, RunIsItsSteps}
 use Rattle.integrity.specs.Examples.{ProgramsAccepted, CallsMade, StopFourShown}
@@ -17,6 +17,7 @@ use Rattle.parcel.specs.Theorems.{ReadWritten, WrittenRead, WrittenWhereRising,
 use Rattle.line.specs.Theorems.{PrefixSuffices}
 use Rattle.line.specs.Canonical.{AcceptedParcelsCanonical}
 use Rattle.table.specs.Table.{Table}
+use Rattle.table.specs.PastTop.{PastTopShown}
 use Rattle.report.specs.Theorems.{KindsAddUp, EdgesAsListed}
 use Rattle.report.specs.Examples.{ReportsShown}
 use Rattle.totals.specs.Theorems.{CountedExactly, TotalsOfList}
@@ -75,5 +76,9 @@ pub record Promises : Type 0 where
   pub written-where-rising : WrittenWhereRising
   -- and the distinct edges of K1 are, of an accepted program, its edges as listed.
   pub edges-as-listed : EdgesAsListed
+  -- K5: a load or a store whose exact sum is two to the 64 or more is stop 3, and changes nothing;
+  pub past-top-stops : (t : Technique) (n : ℕ) (memory : List ℕ) (s : State) → PastTopStops t n memory s
+  -- shown in an accepted program whose store would come round to the first data word.
+  pub past-top-shown : PastTopShown
   -- The starred rows of document 01.
   pub rows : Table

@@ -1,1 +1,2 @@
+pub mod PastTop
 pub mod Table

@@ -1,2 +1,3 @@
+pub mod PastTop
 pub mod PostParcel
 pub mod Table

@@ -12,6 +12,9 @@ load-spec =
     (tie.spec
     (λ c. search needs)
     (λ c. search needs)
+    (λ c. rw (c .enum-told .given .1))
+    (λ c. search needs)
+    (λ c. search needs)
     (λ c κs. search needs)
-    (λ c. rw (lt-ltb _ _ (c .before .before .if1 .taken)) (c .set-register .ensures))
-    (λ c. rw (le-ltb _ _ (c .if1 .left))))
+    (λ c. rw (c .before .before .before .before .access .given .1, lt-ltb _ _ (c .before .before .if1 .taken)) (c .set-register .ensures))
+    (λ c. rw (c .before .before .access .given .1, le-ltb _ _ (c .if1 .left))))

@@ -10,12 +10,16 @@ unfolding storeOf settleOf
 store-spec =
     tie.close
     (tie.spec
+    (λ c. search needs)
+    (λ c. search needs)
+    (λ c. rw (c .enum-told .given .1))
     (λ c κs. search needs)
-    (λ c. rw (lt-leb _ _ (rw (c .before .store-start .ensures) at (c .if1 .taken))))
+    (λ c.
+    rw (c .before .before .before .access .given .1, lt-leb _ _ (rw (c .before .store-start .ensures) at (c .if1 .taken))))
     (λ c κs. search needs)
     (λ c κs. search needs)
     (λ c.
     let q = c .before .before in
-    rw (le-leb _ _ (rw (q .before .before .store-start .ensures) at (q .before .if1 .left)), lt-ltb _ _ (q .if2 .taken)) (cc))
+    rw (q .before .before .before .before .access .given .1, le-leb _ _ (rw (q .before .before .store-start .ensures) at (q .before .if1 .left)), lt-ltb _ _ (q .if2 .taken)) (cc))
     (λ c.
-    rw (le-leb _ _ (rw (c .before .before .store-start .ensures) at (c .before .if1 .left)), le-ltb _ _ (c .if2 .left))))
+    rw (c .before .before .before .before .access .given .1, le-leb _ _ (rw (c .before .before .store-start .ensures) at (c .before .if1 .left)), le-ltb _ _ (c .if2 .left))))
