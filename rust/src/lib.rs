@@ -287,6 +287,20 @@ pub enum Step {
 }
 
 /// Makes one step over n words of code and the data after them. A stop or a refusal changes nothing.
+///
+/// ```
+/// use post_guard::{encode, step, Instruction, State, Step, Stop, Technique};
+/// let store = encode(Instruction::St { rd: 4, rs: 5, w: 8 });
+/// let mut memory = [store, encode(Instruction::Illegal), 1200]; // two words of code, and the bill at 2
+/// let mut state = State::fresh([0; 32]);
+/// state.registers[4] = u64::MAX - 5; // r4 + 8 is 2^64 + 2: that is no address, and not the bill's
+/// assert_eq!(step(Technique::Plain, &mut state, &mut memory, 2), Ok(Step::Stopped(Stop::Access)));
+/// assert_eq!((memory[2], state.pc), (1200, 0));
+/// state.registers[4] = 2;
+/// memory[0] = encode(Instruction::St { rd: 4, rs: 5, w: 0 });
+/// assert_eq!(step(Technique::Plain, &mut state, &mut memory, 2), Ok(Step::Made));
+/// assert_eq!((memory[2], state.pc), (0, 1));
+/// ```
 #[inline]
 pub fn step(technique: Technique, state: &mut State, memory: &mut [u64], n: usize) -> Result<Step, Refusal> {
     match calls::step(technique.number(), state, memory, n) {

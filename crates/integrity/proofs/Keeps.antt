@@ -16,7 +16,8 @@ use Rattle.isa.specs.declared.Technique.{Technique}
 use Rattle.isa.specs.Words.{decodeOf}
 use Rattle.isa.specs.Instructions.{instrAt}
 use Rattle.isa.proofs.Words.{round-trips}
-use Rattle.machine.specs.Steps.{nextAllowed, regOf, addressOf}
+use Rattle.addresses.specs.Addresses.{addressOf}
+use Rattle.machine.specs.Steps.{nextAllowed, regOf}
 use Rattle.graph.specs.Claim.{idOf}
 use Rattle.guards.specs.declared.Slot.{Slot}
 use Rattle.guards.specs.Sequences.{jumpGuard, storeGuard}

@@ -18,6 +18,7 @@ use Rattle.isa.specs.declared.Instr.{Instr}
 use Rattle.isa.specs.declared.Technique.{Technique}
 use Rattle.isa.specs.Words.{decodeOf}
 use Rattle.isa.specs.Instructions.{instrAt, branchTarget, isJump, isLoad}
+use Rattle.addresses.specs.Addresses.{addressOf}
 use Rattle.machine.specs.declared.Stop.{Stop}
 use Rattle.machine.specs.declared.Outcome.{Outcome}
 use Rattle.machine.specs.declared.Effect.{Effect}
@@ -29,7 +30,6 @@ use Rattle.machine.specs.Steps.{
   nextAllowed,
   regOf,
   stateOf,
-  addressOf,
   loadOf,
   storeOf,
   effectOf,

@@ -15,10 +15,11 @@ use Rattle.isa.specs.declared.Technique.{Technique}
 use Rattle.isa.specs.Instructions.{instrAt}
 use Rattle.isa.specs.Theorems.{Registers}
 use Rattle.isa.proofs.Words.{decode-registers}
+use Rattle.addresses.specs.declared.Access.{Access}
+use Rattle.addresses.specs.Addresses.{addressOf, accessAt}
 use Rattle.machine.specs.declared.State.{State}
 use Rattle.machine.specs.declared.Stop.{Stop}
 use Rattle.machine.specs.declared.Effect.{Effect}
-use Rattle.machine.specs.declared.Access.{Access}
 use Rattle.machine.specs.declared.Moved.{Moved}
 use Rattle.machine.specs.declared.Outcome.{Outcome}
 use Rattle.machine.specs.declared.Ending.{Ending}
@@ -28,7 +29,6 @@ use Rattle.machine.specs.Steps.{
   nextAllowed,
   regOf,
   stateOf,
-  addressOf,
   loadOf,
   storeOf,
   effectOf,
@@ -40,7 +40,7 @@ use Rattle.machine.specs.Steps.{
   stepMemory,
 }
 use Rattle.machine.specs.Runs.{ran, runFrom, runMemoryFrom}
-use Rattle.machine.specs.Inside.{InRange, accessAt, accessed, movedOf, registersAfter, Carried, endingBy}
+use Rattle.machine.specs.Inside.{InRange, accessed, movedOf, registersAfter, Carried, endingBy}
 
 pub fetch-within : (t : Technique) (len n : ℕ) → n ≤ len → fetchEnd t n len ≤ len
 fetch-within Technique.Plain len n h = h

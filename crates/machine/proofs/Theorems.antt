@@ -14,6 +14,7 @@ use Rattle.answers.proofs.Shape.{shaped}
 use Rattle.isa.specs.declared.Instr.{Instr}
 use Rattle.isa.specs.declared.Technique.{Technique}
 use Rattle.isa.specs.Instructions.{instrAt, isIllegal}
+use Rattle.addresses.specs.Addresses.{addressOf}
 use Rattle.machine.specs.declared.State.{State}
 use Rattle.machine.specs.declared.Stop.{Stop}
 use Rattle.machine.specs.declared.Effect.{Effect}
@@ -25,7 +26,6 @@ use Rattle.machine.specs.Steps.{
   storeStart,
   nextAllowed,
   regOf,
-  addressOf,
   loadOf,
   storeOf,
   effectOf,

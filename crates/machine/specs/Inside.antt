@@ -1,15 +1,14 @@
 -- What the private functions promise each other: a step and a run over registers and a pc that stand apart.
-use Prim.Native.Nat.{ℕ, _^_, _<_}
+use Prim.Native.Nat.{ℕ, _<_}
 use mathlib.Core.Path.{_≡_}
 use mathlib.Core.Bool.{cond}
 use mathlib.Core.List.{List}
-use lib.Dec.{ltb}
 use lib.ListN.{set}
 use Rattle.answers.specs.declared.Refusal.{Refusal}
 use Rattle.isa.specs.declared.Technique.{Technique}
+use Rattle.addresses.specs.declared.Access.{Access}
 use Rattle.machine.specs.declared.Stop.{Stop}
 use Rattle.machine.specs.declared.Effect.{Effect}
-use Rattle.machine.specs.declared.Access.{Access}
 use Rattle.machine.specs.declared.Moved.{Moved}
 use Rattle.machine.specs.declared.Outcome.{Outcome}
 use Rattle.machine.specs.declared.Ending.{Ending}
@@ -19,10 +18,7 @@ use Rattle.machine.specs.Steps.{stateOf, memoryAfter}
 use Rattle.machine.specs.Runs.{ran, runOf, runMemory}
 use Rattle.machine.specs.Bus.{writable}
 
--- the address of a load or a store as the code has it, and what is done there: past the top, stop 3
-abbrev pub accessAt : ℕ → Access
-accessAt a = cond (ltb a (2 ^ 64)) (Access.At a) Access.PastTop
-
+-- what is done at the address of a load or a store, as the code has it: past the top, stop 3
 abbrev pub accessed : Access → (ℕ → Effect) → Effect
 accessed (Access.At a) f = f a
 accessed Access.PastTop f = Effect.Stop Stop.Access

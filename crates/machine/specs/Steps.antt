@@ -10,6 +10,7 @@ use Rattle.answers.specs.Shape.{memoryShaped}
 use Rattle.isa.specs.declared.Instr.{Instr}
 use Rattle.isa.specs.declared.Technique.{Technique}
 use Rattle.isa.specs.Instructions.{instrAt, isIllegal}
+use Rattle.addresses.specs.Addresses.{addressOf}
 use Rattle.machine.specs.declared.State.{State}
 use Rattle.machine.specs.declared.Stop.{Stop}
 use Rattle.machine.specs.declared.Outcome.{Outcome}
@@ -42,16 +43,12 @@ stateOf regs pc = record { regs = regs; pc = pc }
 abbrev pub sumOf : ℕ → ℕ → ℕ
 sumOf x y = (x + y) % 2 ^ 64
 
--- "For ld and st the sum is exact" (document 02, K5): the figures' words have no top. One "of two to the 64 or more is stop 3" by
--- `loadOf` and `storeOf`, as no memory reaches so far.
-abbrev pub addressOf : ℕ → ℕ → ℕ
-addressOf base w = base + w
-
 -- "bgt compares unsigned"
 abbrev pub branchOf : ℕ → ℕ → ℕ → ℕ → ℕ
 branchOf x y w next = cond (ltb y x) w next
 
--- "a load outside memory" is stop 3
+-- "a load outside memory" is stop 3, and so is "one of two to the 64 or more" (document 02, K5), as no memory reaches so far: the
+-- address is the exact sum (`addressOf`)
 unfoldable pub loadOf : List ℕ → ℕ → ℕ → ℕ → Effect
 loadOf m rd address next =
     cond (ltb address (length m)) (Effect.SetRegister rd (getD m address 0) next) (Effect.Stop Stop.Access)

@@ -12,7 +12,7 @@ use Rattle.machine.specs.declared.State.{State}
 use Rattle.machine.specs.declared.Stop.{Stop}
 use Rattle.machine.specs.declared.Outcome.{Outcome}
 use Rattle.machine.specs.declared.Ran.{Ran}
-use Rattle.machine.specs.Steps.{fetchEnd, regOf, addressOf, stepped, stepOf, stepMemory}
+use Rattle.machine.specs.Steps.{fetchEnd, regOf, stepped, stepOf, stepMemory}
 use Rattle.machine.specs.Runs.{ran, endingOf, ifMade, runOf, runMemory}
 
 abbrev pub oneMore : Ran → Ran
@@ -29,11 +29,11 @@ module _ (t : Technique) (n : ℕ) (m : List ℕ) (s : State) where
   pub record PastTopStops : Type 0 where
     pub load :
         memoryShaped (length m) n ≡ true → s .pc < fetchEnd t n (length m) → (rd rs w : ℕ) → instrAt m (s .pc) ≡ Instr.Ld rd rs w
-        → 2 ^ 64 ≤ addressOf (regOf s rs) w
+        → 2 ^ 64 ≤ regOf s rs + w
         → stepOf t n m s ≡ stepped s (Outcome.Stopped Stop.Access)
     pub store :
         memoryShaped (length m) n ≡ true → s .pc < fetchEnd t n (length m) → (rd rs w : ℕ) → instrAt m (s .pc) ≡ Instr.St rd rs w
-        → 2 ^ 64 ≤ addressOf (regOf s rd) w
+        → 2 ^ 64 ≤ regOf s rd + w
         → (stepOf t n m s ≡ stepped s (Outcome.Stopped Stop.Access)) × (stepMemory t n m s ≡ m)
 
   -- a run of limit k + 1 is a step and, where that is made, a run of limit k from what the step leaves

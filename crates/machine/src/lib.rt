@@ -10,11 +10,12 @@ ghost use lib.ListN.{length, getD, set};
 ghost use Rattle.answers.specs.Shape.{memoryShaped};
 ghost use Rattle.isa.specs.Theorems.{Registers};
 ghost use Rattle.machine.specs.Numbers.{stopNumber};
-ghost use Rattle.machine.specs.Steps.{fetchEnd, storeStart, nextAllowed, addressOf, branchOf, stateOf, loadOf, storeOf, effectOf, settleOf, intentOf, Steps};
+ghost use Rattle.machine.specs.Steps.{fetchEnd, storeStart, nextAllowed, branchOf, stateOf, loadOf, storeOf, effectOf, settleOf, intentOf, Steps};
 ghost use Rattle.machine.specs.Bus.{WritesData, WritesRegister};
 ghost use Rattle.machine.specs.Runs.{Runs};
 ghost use Rattle.machine.specs.Lent.{RunsLent, WritesRegisterLent};
-ghost use Rattle.machine.specs.Inside.{InRange, accessAt, accessed, Carried, RanOver, endingBy, outcomeBy, PutsRegister};
+ghost use Rattle.machine.specs.Inside.{InRange, accessed, Carried, RanOver, endingBy, outcomeBy, PutsRegister};
+use addresses::Access;
 use answers::Refusal;
 use isa::Instr;
 use isa::Technique;
@@ -216,12 +217,6 @@ pub enum Effect {
     Stop(Stop),
 }
 
-// Where a load or a store goes: an exact sum of 2^64 or more is the address of no word.
-enum Access {
-    At(u64),
-    PastTop,
-}
-
 // Where a step goes, or why it cannot be made.
 enum Moved {
     To(u64),
@@ -354,12 +349,19 @@ fn effect_of(
         ),
         Instr::Jd(w) => go(technique, n, wide(w)),
         Instr::Jmp(rs) => go(technique, n, reg(regs, rs)),
-        Instr::Ld(rd, rs, w) => load(technique, memory, n, rd, address(reg(regs, rs), w), next),
+        Instr::Ld(rd, rs, w) => load(
+            technique,
+            memory,
+            n,
+            rd,
+            addresses::address(reg(regs, rs), w),
+            next,
+        ),
         Instr::St(rd, rs, w) => store(
             technique,
             memory,
             n,
-            address(reg(regs, rd), w),
+            addresses::address(reg(regs, rd), w),
             reg(regs, rs),
             next,
         ),
@@ -392,17 +394,6 @@ fn next_allowed(technique: Technique, n: usize, next: u64) -> bool
         Technique::Plain => next < n as u64,
         Technique::MemoryGuards => true,
     }
-}
-
-// The exact sum, tested before it is made.
-fn address(base: u64, w: u32) -> Access
-    ensures { λ r. ⌜ r ≡ accessAt (addressOf base w) ⌝ }
-{
-    let displacement = wide(w);
-    if base <= 0xffff_ffff_ffff_ffff - displacement {
-        return Access::At(base + displacement);
-    }
-    Access::PastTop
 }
 
 fn branch(x: u64, y: u64, w: u64, next: u64) -> u64

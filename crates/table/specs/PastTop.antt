@@ -8,9 +8,10 @@ use Rattle.answers.specs.declared.Verdict.{Verdict}
 use Rattle.isa.specs.declared.Instr.{Instr}
 use Rattle.isa.specs.declared.Technique.{Technique}
 use Rattle.isa.specs.Words.{encodeOf}
+use Rattle.addresses.specs.Addresses.{addressOf}
 use Rattle.machine.specs.declared.Ran.{Ran}
 use Rattle.machine.specs.Numbers.{endingNumber}
-use Rattle.machine.specs.Steps.{stateOf, sumOf, addressOf}
+use Rattle.machine.specs.Steps.{stateOf, sumOf}
 use Rattle.machine.specs.Runs.{runOf, runMemory}
 use Rattle.checker.specs.Verdicts.{verdictOf}
 

@@ -1,7 +1,8 @@
 -- `machine::effect_of` meets its contract: in each arm the instruction is known, and its registers are below 32.
 use Prim.Native.Nat.{_+_}
 use denote.Ref.{now}
-use Rattle.machine.specs.Steps.{addressOf, effectOf, settleOf}
+use Rattle.addresses.specs.Addresses.{addressOf}
+use Rattle.machine.specs.Steps.{effectOf, settleOf}
 use borrow.Author.Needs.{needs}
 use Rattle.machine.proofs.Steps.{load-exact, store-exact}
 use Rattle.machine.proofs.effect_of.Statement.{statement}
