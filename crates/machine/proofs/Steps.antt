@@ -2,12 +2,12 @@
 -- says of the step, and of a turn of the run.
 use Prim.Native.Nat.{ℕ, suc, _+_, _-_, _^_, _<_, _≤_}
 use mathlib.Core.Path.{_≡_, refl, sym, _∙_}
-use mathlib.Core.Bool.{Bool, true, false, cond, _&&_, and-false}
+use mathlib.Core.Bool.{Bool, true, false, cond, _&&_}
 use mathlib.Core.List.{List}
 use native.Mathlib.Omega.{arith}
 use lib.Dec.{ltb, leb}
 use lib.ListN.{length, getD}
-use borrow.Author.Tests.{ltb-true, ltb-false, le-ltb}
+use borrow.Author.Tests.{ltb-true, le-ltb}
 use Rattle.lists.proofs.Bools.{clash, and-right}
 use Rattle.answers.specs.Shape.{memoryShaped}
 use Rattle.isa.specs.declared.Instr.{Instr}
@@ -15,8 +15,7 @@ use Rattle.isa.specs.declared.Technique.{Technique}
 use Rattle.isa.specs.Instructions.{instrAt}
 use Rattle.isa.specs.Theorems.{Registers}
 use Rattle.isa.proofs.Words.{decode-registers}
-use Rattle.addresses.specs.declared.Access.{Access}
-use Rattle.addresses.specs.Addresses.{addressOf, accessAt}
+use Rattle.addresses.specs.Addresses.{addressOf}
 use Rattle.machine.specs.declared.State.{State}
 use Rattle.machine.specs.declared.Stop.{Stop}
 use Rattle.machine.specs.declared.Effect.{Effect}
@@ -40,7 +39,7 @@ use Rattle.machine.specs.Steps.{
   stepMemory,
 }
 use Rattle.machine.specs.Runs.{ran, runFrom, runMemoryFrom}
-use Rattle.machine.specs.Inside.{InRange, accessed, movedOf, registersAfter, Carried, endingBy}
+use Rattle.machine.specs.Inside.{InRange, movedOf, registersAfter, Carried, endingBy}
 
 pub fetch-within : (t : Technique) (len n : ℕ) → n ≤ len → fetchEnd t n len ≤ len
 fetch-within Technique.Plain len n h = h
@@ -91,32 +90,8 @@ intent-in t n m s =
     (tt {0})
 
 -- no memory reaches past the top
-past-end : (m : List ℕ) (a : ℕ) → length m ≤ 4096 → 2 ^ 64 ≤ a → ltb a (length m) ≡ false
+pub past-end : (m : List ℕ) (a : ℕ) → length m < 2 ^ 64 → 2 ^ 64 ≤ a → ltb a (length m) ≡ false
 past-end m a l h = le-ltb a (length m) (omega arith)
-
-pub load-past : (m : List ℕ) (rd a next : ℕ) → length m ≤ 4096 → 2 ^ 64 ≤ a → loadOf m rd a next ≡ Effect.Stop Stop.Access
-unfolding loadOf
-load-past m rd a next l h = rw (past-end m a l h)
-
-pub store-past : (t : Technique) (n : ℕ) (m : List ℕ) (a value next : ℕ) → length m ≤ 4096 → 2 ^ 64 ≤ a
-    → storeOf t n m a value next ≡ Effect.Stop Stop.Access
-unfolding storeOf
-store-past t n m a value next l h = rw (past-end m a l h, and-false (leb (storeStart t n) a))
-
--- so the exact address does what the code does with what it has for it
-exact : (a : ℕ) (f : ℕ → Effect) → (2 ^ 64 ≤ a → f a ≡ Effect.Stop Stop.Access) → accessed (accessAt a) f ≡ f a
-exact a f past = go (ltb a (2 ^ 64)) refl
-  where
-    go : (b : Bool) → ltb a (2 ^ 64) ≡ b → accessed (cond b (Access.At a) Access.PastTop) f ≡ f a
-    go true e = refl
-    go false e = sym (past (ltb-false a (2 ^ 64) e))
-
-pub load-exact : (m : List ℕ) (rd a next : ℕ) → length m ≤ 4096 → accessed (accessAt a) (λ x. loadOf m rd x next) ≡ loadOf m rd a next
-load-exact m rd a next l = exact a (λ x. loadOf m rd x next) (load-past m rd a next l)
-
-pub store-exact : (t : Technique) (n : ℕ) (m : List ℕ) (a value next : ℕ) → length m ≤ 4096
-    → accessed (accessAt a) (λ x. storeOf t n m x value next) ≡ storeOf t n m a value next
-store-exact t n m a value next l = exact a (λ x. storeOf t n m x value next) (store-past t n m a value next l)
 
 -- a run that has made as many steps as its limit
 pub run-spent : (t : Technique) (n limit : ℕ) (m : List ℕ) (s : State) (count : ℕ) → limit ≤ count

@@ -1,7 +1,7 @@
 -- The theorems of `specs/Theorems.antt`, and that the number a step gives is the first reason that applies.
-use Prim.Native.Nat.{ℕ, zero, suc, _+_, _<_, _≤_}
+use Prim.Native.Nat.{ℕ, zero, suc, _+_, _^_, _≤_}
 use mathlib.Core.Path.{_≡_, refl, ap, _∙_}
-use mathlib.Core.Bool.{Bool, true, false, not, cond, _&&_}
+use mathlib.Core.Bool.{Bool, true, false, not, cond, _&&_, and-false}
 use mathlib.Core.List.{List}
 use native.Mathlib.Omega.{arith}
 use lib.Dec.{ltb, leb}
@@ -43,7 +43,7 @@ use Rattle.machine.specs.Steps.{
 }
 use Rattle.machine.specs.Runs.{ifMade, runFrom, runMemoryFrom, runOf, runMemory}
 use Rattle.machine.specs.Theorems.{oneMore, UnmadeChangesNothing, PastTopStops, StepThenRun}
-use Rattle.machine.proofs.Steps.{load-past, store-past}
+use Rattle.machine.proofs.Steps.{past-end}
 
 -- numbers: an effect's, and what settling and the tests of loads and stores make of it
 abbrev effectNumber : Effect → ℕ
@@ -177,20 +177,18 @@ unmade-changes-nothing t n m s =
     record { state-same = λ h. step-unmade t n m s h .0; memory-same = λ h. step-unmade t n m s h .1 }
 
 pub past-top-stops : (t : Technique) (n : ℕ) (m : List ℕ) (s : State) → PastTopStops t n m s
-unfolding effectOf settleOf intentOf afterOf memoryAfter stepOf stepMemory
+unfolding loadOf storeOf effectOf settleOf intentOf afterOf memoryAfter stepOf stepMemory
 past-top-stops t n m s =
     record {
-      load = λ p f rd rs w e h. rw (p, fetched f, e, load-past m rd (addressOf (regOf s rs) w) (s .pc + 1) (size p) h);
+      load = λ p f rd rs w e h. rw (p, lt-ltb _ _ f, e, past p (regOf s rs + w) h);
       store = λ p f rd rs w e h.
-          let stops = store-past t n m (addressOf (regOf s rd) w) (regOf s rs) (s .pc + 1) (size p) h in
-          (rw (p, fetched f, e, stops), rw (p, fetched f, e, stops));
+          let outside = past p (regOf s rd + w) h in
+          let none = and-false (leb (storeStart t n) (regOf s rd + w)) in
+          (rw (p, lt-ltb _ _ f, e, outside, none), rw (p, lt-ltb _ _ f, e, outside, none));
     }
   where
-    size : memoryShaped (length m) n ≡ true → length m ≤ 4096
-    size p = let q = shaped (length m) n p in omega (arith, q .code-limit, q .data-limit)
-
-    fetched : s .pc < fetchEnd t n (length m) → ltb (s .pc) (fetchEnd t n (length m)) ≡ true
-    fetched f = lt-ltb (s .pc) (fetchEnd t n (length m)) f
+    past : memoryShaped (length m) n ≡ true → (a : ℕ) → 2 ^ 64 ≤ a → ltb a (length m) ≡ false
+    past p a = let q = shaped (length m) n p in past-end m a (omega (arith, q .code-limit, q .data-limit))
 
 -- the count so far is carried along, and no more
 if-made-more : (o : Outcome) (r r′ x : _) → r ≡ oneMore r′ → ifMade o r (oneMore x) ≡ oneMore (ifMade o r′ x)

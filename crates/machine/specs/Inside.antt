@@ -6,8 +6,6 @@ use mathlib.Core.List.{List}
 use lib.ListN.{set}
 use Rattle.answers.specs.declared.Refusal.{Refusal}
 use Rattle.isa.specs.declared.Technique.{Technique}
-use Rattle.addresses.specs.declared.Access.{Access}
-use Rattle.machine.specs.declared.Stop.{Stop}
 use Rattle.machine.specs.declared.Effect.{Effect}
 use Rattle.machine.specs.declared.Moved.{Moved}
 use Rattle.machine.specs.declared.Outcome.{Outcome}
@@ -17,11 +15,6 @@ use Rattle.machine.specs.declared.Written.{Written}
 use Rattle.machine.specs.Steps.{stateOf, memoryAfter}
 use Rattle.machine.specs.Runs.{ran, runOf, runMemory}
 use Rattle.machine.specs.Bus.{writable}
-
--- what is done at the address of a load or a store, as the code has it: past the top, stop 3
-abbrev pub accessed : Access → (ℕ → Effect) → Effect
-accessed (Access.At a) f = f a
-accessed Access.PastTop f = Effect.Stop Stop.Access
 
 -- the effect writes registers and memory where they are
 abbrev pub InRange : ℕ → Effect → Type 0

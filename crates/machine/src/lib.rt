@@ -9,12 +9,13 @@ ghost use Prim.Native.Nat.{_+_, _<_, _≤_};
 ghost use lib.ListN.{length, getD, set};
 ghost use Rattle.answers.specs.Shape.{memoryShaped};
 ghost use Rattle.isa.specs.Theorems.{Registers};
+ghost use Rattle.addresses.specs.Addresses.{addressOf};
 ghost use Rattle.machine.specs.Numbers.{stopNumber};
 ghost use Rattle.machine.specs.Steps.{fetchEnd, storeStart, nextAllowed, branchOf, stateOf, loadOf, storeOf, effectOf, settleOf, intentOf, Steps};
 ghost use Rattle.machine.specs.Bus.{WritesData, WritesRegister};
 ghost use Rattle.machine.specs.Runs.{Runs};
 ghost use Rattle.machine.specs.Lent.{RunsLent, WritesRegisterLent};
-ghost use Rattle.machine.specs.Inside.{InRange, accessed, Carried, RanOver, endingBy, outcomeBy, PutsRegister};
+ghost use Rattle.machine.specs.Inside.{InRange, Carried, RanOver, endingBy, outcomeBy, PutsRegister};
 use addresses::Access;
 use answers::Refusal;
 use isa::Instr;
@@ -321,7 +322,7 @@ fn effect_of(
     pc: u64,
     i: Instr,
 ) -> Effect
-    requires { ⌜ Registers i × (pc < 4096) × (length (now regs) ≡ 32) × (length (now memory) ≤ 4096) ⌝ }
+    requires { ⌜ Registers i × (pc < 4096) × (length (now regs) ≡ 32) ⌝ }
     ensures { λ r. ⌜ r ≡ settleOf technique n (effectOf technique n (now (memory .entry)) (stateOf (now (regs .entry)) pc) i) ⌝ }
 {
     let next = pc + 1;
@@ -349,22 +350,8 @@ fn effect_of(
         ),
         Instr::Jd(w) => go(technique, n, wide(w)),
         Instr::Jmp(rs) => go(technique, n, reg(regs, rs)),
-        Instr::Ld(rd, rs, w) => load(
-            technique,
-            memory,
-            n,
-            rd,
-            addresses::address(reg(regs, rs), w),
-            next,
-        ),
-        Instr::St(rd, rs, w) => store(
-            technique,
-            memory,
-            n,
-            addresses::address(reg(regs, rd), w),
-            reg(regs, rs),
-            next,
-        ),
+        Instr::Ld(rd, rs, w) => load(technique, memory, n, rd, reg(regs, rs), w, next),
+        Instr::St(rd, rs, w) => store(technique, memory, n, reg(regs, rd), w, reg(regs, rs), next),
         Instr::Illegal => Effect::Stop(Stop::Illegal),
     }
 }
@@ -417,13 +404,21 @@ fn set_register(technique: Technique, n: usize, rd: u8, value: u64, next: u64) -
     )
 }
 
-fn load(technique: Technique, memory: &[u64], n: usize, rd: u8, access: Access, next: u64) -> Effect
-    ensures { λ r. ⌜ r ≡ settleOf technique n (accessed access (λ a. loadOf (now (memory .entry)) rd a next)) ⌝ }
+fn load(
+    technique: Technique,
+    memory: &[u64],
+    n: usize,
+    rd: u8,
+    base: u64,
+    w: u32,
+    next: u64,
+) -> Effect
+    ensures { λ r. ⌜ r ≡ settleOf technique n (loadOf (now (memory .entry)) rd (addressOf base w) next) ⌝ }
 {
-    let Access::At(exact) = access else {
+    let Access::At(address) = addresses::address(base, w) else {
         return Effect::Stop(Stop::Access);
     };
-    let at = exact as usize;
+    let at = address as usize;
     if at < memory.len() {
         return set_register(technique, n, rd, memory[at], next);
     }
@@ -434,23 +429,24 @@ fn store(
     technique: Technique,
     memory: &[u64],
     n: usize,
-    access: Access,
+    base: u64,
+    w: u32,
     value: u64,
     next: u64,
 ) -> Effect
-    ensures { λ r. ⌜ r ≡ settleOf technique n (accessed access (λ a. storeOf technique n (now (memory .entry)) a value next)) ⌝ }
+    ensures { λ r. ⌜ r ≡ settleOf technique n (storeOf technique n (now (memory .entry)) (addressOf base w) value next) ⌝ }
 {
-    let Access::At(exact) = access else {
+    let Access::At(address) = addresses::address(base, w) else {
         return Effect::Stop(Stop::Access);
     };
-    let at = exact as usize;
+    let at = address as usize;
     if at < store_start(technique, n) {
         return Effect::Stop(Stop::Access);
     }
     if at < memory.len() {
         return effect_if(
             next_allowed(technique, n, next),
-            Effect::PutWord(exact, value, next),
+            Effect::PutWord(address, value, next),
         );
     }
     Effect::Stop(Stop::Access)

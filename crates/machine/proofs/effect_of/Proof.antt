@@ -1,10 +1,6 @@
 -- `machine::effect_of` meets its contract: in each arm the instruction is known, and its registers are below 32.
-use Prim.Native.Nat.{_+_}
-use denote.Ref.{now}
-use Rattle.addresses.specs.Addresses.{addressOf}
 use Rattle.machine.specs.Steps.{effectOf, settleOf}
 use borrow.Author.Needs.{needs}
-use Rattle.machine.proofs.Steps.{load-exact, store-exact}
 use Rattle.machine.proofs.effect_of.Statement.{statement}
 use Rattle.machine.proofs.effect_of.Tie as tie
 
@@ -38,21 +34,11 @@ returns-7 c = rw (c .before .before .before .i6 .given .1) (cc)
 
 returns-8 : tie.Need-returns-8
 unfolding effectOf
-returns-8 c =
-    let q = c .before .before .before .before in
-    let p = q .before .before .before .before in
-    let v = q .i7 .given .0 in
-    let a = addressOf (c .before .before .reg7 .result) (v .1 .1 .0) in
-    rw (q .i7 .given .1) (cc (load-exact (now (p .args .memory)) (v .0) a (p .args .pc + 1) (p .pre .3)))
+returns-8 c = rw (c .before .before .before .i7 .given .1) (cc)
 
 returns-9 : tie.Need-returns-9
 unfolding effectOf
-returns-9 c =
-    let q = c .before .before .before .before .before in
-    let p = q .before .before .before .before in
-    let a = addressOf (c .before .before .before .reg8 .result) (q .i8 .given .0 .1 .1 .0) in
-    rw (q .i8 .given .1)
-    (cc (store-exact (p .args .technique) (p .args .n) (now (p .args .memory)) a (c .before .reg9 .result) (p .args .pc + 1) (p .pre .3)))
+returns-9 c = rw (c .before .before .before .before .i8 .given .1) (cc)
 
 returns-10 : tie.Need-returns-10
 unfolding effectOf settleOf
@@ -93,11 +79,9 @@ effect-of-spec =
     (λ c. search needs)
     (λ c κs. let p = rw (c .before .i7 .given .1) at (c .before .before .before .before .before .pre .0) in (p .1, c .before .before .before .before .before .pre .2))
     (λ c κs. search needs)
-    (λ c κs. search needs)
     (λ c. search needs)
     (λ c κs. let p = rw (c .before .i8 .given .1) at (c .before .before .before .before .before .pre .0) in (p .0, c .before .before .before .before .before .pre .2))
-    (λ c κs. search needs)
-    (λ c κs. let p = rw (c .before .before .before .i8 .given .1) at (c .before .before .before .before .before .before .before .pre .0) in (p .1, c .before .before .before .before .before .before .before .pre .2))
+    (λ c κs. let p = rw (c .before .before .i8 .given .1) at (c .before .before .before .before .before .before .pre .0) in (p .1, c .before .before .before .before .before .before .pre .2))
     (λ c κs. search needs)
     (λ c. search needs)
     returns

@@ -36,6 +36,6 @@ intent-spec =
     let l = p .within in
     let d = p .data-limit in
     let k = p .code-limit in
-    (rw (c .decode .ensures) (decode-registers (getD (now (a .memory)) (a .pc) 0)), omega arith, q .pre .1, omega arith))
+    (rw (c .decode .ensures) (decode-registers (getD (now (a .memory)) (a .pc) 0)), omega arith, q .pre .1))
     (λ c. rw (lt-ltb _ _ (rw (c .before .before .before .before .fetch-end .ensures) at (c .before .before .before .if1 .taken))) (cc))
     (λ c. rw (le-ltb _ _ (rw (c .before .fetch-end .ensures) at (c .if1 .left)))))
