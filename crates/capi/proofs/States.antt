@@ -9,10 +9,12 @@ use Rattle.answers.specs.declared.Refusal.{Refusal}
 use Rattle.isa.specs.declared.Technique.{Technique}
 use Rattle.machine.specs.declared.Stepped.{Stepped}
 use Rattle.machine.specs.declared.Ended.{Ended}
-use Rattle.machine.specs.declared.Written.{Written}
-use Rattle.machine.specs.Numbers.{endingNumber, writtenNumber}
-use Rattle.machine.specs.Lent.{stateIn, wordsOf, RunsLent, WritesRegisterLent}
+use Rattle.machine.specs.Numbers.{endingNumber}
+use Rattle.machine.specs.Lent.{stateIn, wordsOf, RunsLent}
 use Rattle.machine.proofs.OneStep.{one-step}
+use Rattle.bus.specs.declared.Written.{Written}
+use Rattle.bus.specs.Numbers.{writtenNumber}
+use Rattle.bus.specs.Lent.{WritesRegisterLent}
 use Rattle.capi.specs.Words.{tooShort}
 use Rattle.capi.specs.States.{techniqueOf, StepCall, RunCall, WriteRegisterCall}
 use Rattle.capi.specs.Inside.{Ordered, RunNumber}

@@ -9,14 +9,15 @@ use Rattle.answers.specs.declared.Refusal.{Refusal}
 use Rattle.answers.specs.Shape.{memoryShaped}
 use Rattle.machine.specs.declared.State.{State}
 use Rattle.machine.specs.declared.Outcome.{Outcome}
-use Rattle.machine.specs.declared.Written.{Written}
-use Rattle.machine.specs.Numbers.{outcomeNumber, writtenNumber}
+use Rattle.machine.specs.Numbers.{outcomeNumber}
 use Rattle.machine.specs.Steps.{stepOf}
-use Rattle.machine.specs.Bus.{inData, writable, writeDataOf, writeDataMemory, writeRegisterOf}
 use Rattle.machine.specs.Runs.{runOf, runMemory}
 use Rattle.machine.specs.Lent.{stateIn, wordsOf}
 use Rattle.machine.proofs.Theorems.{unmade-changes-nothing}
 use Rattle.machine.proofs.Lent.{put-back}
+use Rattle.bus.specs.declared.Written.{Written}
+use Rattle.bus.specs.Numbers.{writtenNumber}
+use Rattle.bus.specs.Bus.{inData, writable, writeDataOf, writeDataMemory, writeRegisterOf}
 use Rattle.lists.specs.Places.{shorter, putOver}
 use Rattle.capi.specs.States.{techniqueOf, StepCall, RunCall, WriteDataCall, WriteRegisterCall}
 use Rattle.capi.specs.Theorems.{RefusedChangesNothing}

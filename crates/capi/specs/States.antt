@@ -5,11 +5,12 @@ use mathlib.Core.Bool.{cond, _||_}
 use mathlib.Core.List.{List, [], _∷_}
 use lib.Dec.{eqb}
 use Rattle.isa.specs.declared.Technique.{Technique}
-use Rattle.machine.specs.Numbers.{outcomeNumber, endingNumber, writtenNumber}
+use Rattle.machine.specs.Numbers.{outcomeNumber, endingNumber}
 use Rattle.machine.specs.Steps.{stepOf, stepMemory}
-use Rattle.machine.specs.Bus.{writeDataOf, writeDataMemory, writeRegisterOf}
 use Rattle.machine.specs.Runs.{runOf, runMemory}
 use Rattle.machine.specs.Lent.{stateIn, wordsOf}
+use Rattle.bus.specs.Numbers.{writtenNumber}
+use Rattle.bus.specs.Bus.{writeDataOf, writeDataMemory, writeRegisterOf}
 use Rattle.lists.specs.Places.{shorter, putOver}
 use Rattle.capi.specs.Words.{tooShort}
 

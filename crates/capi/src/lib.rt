@@ -4,7 +4,8 @@ ghost use mathlib.Core.Bool.{true, cond};
 ghost use Prim.Native.Nat.{_≤_};
 ghost use lib.ListN.{length};
 ghost use mathlib.Core.List.{[], _∷_};
-ghost use Rattle.machine.specs.Numbers.{endingNumber, writtenNumber};
+ghost use Rattle.machine.specs.Numbers.{endingNumber};
+ghost use Rattle.bus.specs.Numbers.{writtenNumber};
 ghost use Rattle.lists.specs.Places.{shorter, putOver};
 ghost use Rattle.capi.specs.Words.{DecodeCall, encodeCall};
 ghost use Rattle.capi.specs.States.{techniqueOf, StepCall, RunCall, WriteDataCall, WriteRegisterCall};
@@ -14,9 +15,9 @@ ghost use Rattle.parcel.specs.Parcel.{readOf, countsOf};
 ghost use Rattle.capi.specs.Parcels.{readNumber, noPlace, ReadCall, writtenParcelNumber, writtenPlace, writeCall, WriteCall, WritePlacedCall};
 use answers::Place;
 use answers::Verdict;
+use bus::Written;
 use isa::Technique;
 use machine::Ending;
-use machine::Written;
 use parcel::Read;
 
 #[no_mangle]
@@ -81,14 +82,14 @@ pub extern "C" fn pg_run(
 pub extern "C" fn pg_write_data(memory: &mut [u64], n: usize, address: u64, word: u64) -> u32
     ensures { λ r. ⌜ WriteDataCall n (now (memory .entry)) address word r (now (memory .exit)) ⌝ }
 {
-    written_number(machine::write_data(memory, n, address, word))
+    written_number(bus::write_data(memory, n, address, word))
 }
 
 #[no_mangle]
 pub extern "C" fn pg_write_register(state: &mut [u64], register: u64, word: u64) -> u32
     ensures { λ r. ⌜ WriteRegisterCall (now (state .entry)) register word r (now (state .exit)) ⌝ }
 {
-    written_number(machine::write_register_lent(state, register, word))
+    written_number(bus::write_register_lent(state, register, word))
 }
 
 #[no_mangle]

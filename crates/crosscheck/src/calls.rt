@@ -12,11 +12,11 @@ use crate::tally;
 use crate::tally::Tally;
 use crate::tally::count;
 use crate::words;
+use bus::Written;
 use machine::Ending;
 use machine::Outcome;
 use machine::Ran;
 use machine::State;
-use machine::Written;
 
 // A list of calls under way: what has been counted so far, and the seed of what is drawn next.
 struct Walk {
@@ -381,7 +381,7 @@ fn bus_word(seed: u64, checked: &[u64], edges: &[u16]) -> Drawn {
 
 fn write_word(tally: Tally, memory: &mut [u64], n: usize, address: usize, word: usize) -> Tally {
     let len = memory.len();
-    let written = machine::write_data(memory, n, address as u64, word as u64);
+    let written = bus::write_data(memory, n, address as u64, word as u64);
     let number = written_number(written);
     let there = words::at(&*memory, address) == word;
     let inside = (address >= n) & (address < len);
@@ -394,7 +394,7 @@ fn write_register(walk: Walk, seed: u64, n: usize, len: usize) -> Walk {
     let register = below(seed, 34);
     let word = random_address(register.seed, n, len);
     let state = walk.state;
-    let written = machine::write_register(state, register.x as u64, word.x as u64);
+    let written = bus::write_register(state, register.x as u64, word.x as u64);
     let answer = written.answer;
     let after = written.state;
     let writable = (register.x >= 3) & (register.x <= 31);

@@ -14,8 +14,8 @@ use Rattle.answers.proofs.Shape.{shaped}
 use Rattle.isa.specs.declared.Technique.{Technique}
 use Rattle.machine.specs.Numbers.{outcomeNumber}
 use Rattle.machine.specs.Steps.{stateOf}
-use Rattle.machine.specs.declared.RegisterWritten.{RegisterWritten}
-use Rattle.machine.specs.Bus.{inData, writeDataMemory, writeRegisterOf}
+use Rattle.bus.specs.declared.RegisterWritten.{RegisterWritten}
+use Rattle.bus.specs.Bus.{inData, writeDataMemory, writeRegisterOf}
 use Rattle.checker.specs.Conditions.{Conditions}
 use Rattle.checker.proofs.Equivalence.{accepted-exactly}
 use Rattle.integrity.specs.Calls.{Call, Config, config, Event, afterCall}

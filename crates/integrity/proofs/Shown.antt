@@ -4,8 +4,8 @@ use mathlib.Core.Path.{refl}
 use Rattle.lists.specs.Search.{lowest, any}
 use Rattle.isa.specs.Words.{decodeOf, encodeOf, wordOf}
 use Rattle.machine.specs.Steps.{loadOf, storeOf, effectOf, settleOf, intentOf, afterOf, memoryAfter, stepOf, stepMemory}
-use Rattle.machine.specs.Bus.{writeDataMemory, writeRegisterOf}
 use Rattle.machine.specs.Runs.{runFrom, runMemoryFrom, runOf, runMemory}
+use Rattle.bus.specs.Bus.{writeDataMemory, writeRegisterOf}
 use Rattle.graph.specs.Claim.{isEdge, hasEdge, isDestination, idOf}
 use Rattle.guards.specs.Sequences.{fits, standsAt, endsAt}
 use Rattle.guards.specs.Rules.{insideJumpGuard, insideStoreGuard}

@@ -10,8 +10,8 @@ use Rattle.machine.specs.declared.State.{State}
 use Rattle.machine.specs.declared.Outcome.{Outcome}
 use Rattle.machine.specs.declared.Ending.{Ending}
 use Rattle.machine.specs.Steps.{stepOf, stepMemory}
-use Rattle.machine.specs.Bus.{writeDataMemory, writeRegisterOf}
 use Rattle.machine.specs.Runs.{endingOf, ifMade, runOf, runMemory}
+use Rattle.bus.specs.Bus.{writeDataMemory, writeRegisterOf}
 
 -- "steps of that technique, runs by such steps with any limit, and bus writes to a data word or a register, with any address,
 -- register number and word"

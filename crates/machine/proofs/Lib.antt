@@ -1,5 +1,4 @@
 pub mod Steps
 pub mod OneStep
 pub mod Lent
-pub mod Bus
 pub mod Theorems

@@ -1,20 +1,16 @@
 -- What the private functions promise each other: a step and a run over registers and a pc that stand apart.
 use Prim.Native.Nat.{ℕ, _<_}
 use mathlib.Core.Path.{_≡_}
-use mathlib.Core.Bool.{cond}
 use mathlib.Core.List.{List}
 use lib.ListN.{set}
-use Rattle.answers.specs.declared.Refusal.{Refusal}
 use Rattle.isa.specs.declared.Technique.{Technique}
 use Rattle.machine.specs.declared.Effect.{Effect}
 use Rattle.machine.specs.declared.Moved.{Moved}
 use Rattle.machine.specs.declared.Outcome.{Outcome}
 use Rattle.machine.specs.declared.Ending.{Ending}
 use Rattle.machine.specs.declared.RanTo.{RanTo}
-use Rattle.machine.specs.declared.Written.{Written}
 use Rattle.machine.specs.Steps.{stateOf, memoryAfter}
 use Rattle.machine.specs.Runs.{ran, runOf, runMemory}
-use Rattle.machine.specs.Bus.{writable}
 
 -- the effect writes registers and memory where they are
 abbrev pub InRange : ℕ → Effect → Type 0
@@ -56,8 +52,3 @@ abbrev pub outcomeBy : Ending → Outcome
 outcomeBy Ending.Spent = Outcome.Made
 outcomeBy (Ending.Stopped stop) = Outcome.Stopped stop
 outcomeBy (Ending.Refused refusal) = Outcome.Refused refusal
-
--- a word put into a register of lent ones: the answer, and what they hold at exit
-pub record PutsRegister (regs : List ℕ) (register word : ℕ) (r : Written) (regs′ : List ℕ) : Type 0 where
-  pub answer : r ≡ cond (writable register) Written.Done (Written.Refused Refusal.NotRegister)
-  pub registers : regs′ ≡ cond (writable register) (set regs register word) regs

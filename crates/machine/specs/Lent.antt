@@ -11,9 +11,7 @@ use Rattle.isa.specs.declared.Technique.{Technique}
 use Rattle.machine.specs.declared.State.{State}
 use Rattle.machine.specs.declared.Ending.{Ending}
 use Rattle.machine.specs.declared.Ended.{Ended}
-use Rattle.machine.specs.declared.Written.{Written}
 use Rattle.machine.specs.Steps.{stateOf}
-use Rattle.machine.specs.Bus.{writeRegisterOf}
 use Rattle.machine.specs.Runs.{runOf, runMemory}
 
 -- the state that the words are, and the words of a state
@@ -34,12 +32,3 @@ pub record RunsLent (t : Technique) (n limit : ℕ) (words m : List ℕ) (r : En
       (ended (runOf t n limit m (stateIn words) .ending) (runOf t n limit m (stateIn words) .count))
   pub words-after : words′ ≡ cond (shorter words 33) words (putOver (wordsOf (runOf t n limit m (stateIn words) .state)) words)
   pub memory : m′ ≡ cond (shorter words 33) m (runMemory t n limit m (stateIn words))
-
--- the contract of `write_register_lent`: its answer r, and the words that it leaves
-pub record WritesRegisterLent (words : List ℕ) (register word : ℕ) (r : Written) (words′ : List ℕ) : Type 0 where
-  pub answer :
-      r
-      ≡ cond (shorter words 33) (Written.Refused Refusal.PlaceTooShort)
-      (writeRegisterOf (stateIn words) register word .answer)
-  pub words-after :
-      words′ ≡ cond (shorter words 33) words (putOver (wordsOf (writeRegisterOf (stateIn words) register word .state)) words)

@@ -1,6 +1,5 @@
 pub mod Numbers
 pub mod Steps
-pub mod Bus
 pub mod Runs
 pub mod Lent
 pub mod Inside

@@ -6,7 +6,6 @@ use Rattle.answers.specs.Numbers.{refusalNumber}
 use Rattle.machine.specs.declared.Stop.{Stop}
 use Rattle.machine.specs.declared.Outcome.{Outcome}
 use Rattle.machine.specs.declared.Ending.{Ending}
-use Rattle.machine.specs.declared.Written.{Written}
 
 abbrev pub stopNumber : Stop → ℕ
 stopNumber Stop.Fetch = 1
@@ -24,10 +23,6 @@ abbrev pub endingNumber : Ending → ℕ
 endingNumber Ending.Spent = 0
 endingNumber (Ending.Stopped stop) = stopNumber stop
 endingNumber (Ending.Refused refusal) = refusalNumber refusal
-
-abbrev pub writtenNumber : Written → ℕ
-writtenNumber Written.Done = 0
-writtenNumber (Written.Refused refusal) = refusalNumber refusal
 
 -- a number, and whether its reason applies
 pub record Reason : Type 0 where

@@ -1,21 +1,19 @@
-// The machine: one step by either technique, the bus writes, and the bounded run (document 01, "Steps").
+// The machine: one step by either technique, and the bounded run (document 01, "Steps").
 //
-// `step`, `run` and `write_register` take and return the state by value; `run_lent` and `write_register_lent` work on a state
-// that is lent as words, without a copy. Every step is made by `run_over`, over lent registers: its loop is the one place where
-// the compiler puts the whole of a step.
+// `step` and `run` take and return the state by value; `run_lent` works on a state that is lent as words, without a copy. Every
+// step is made by `run_over`, over lent registers: its loop is the one place where the compiler puts the whole of a step.
 ghost use mathlib.Core.Path.{_≡_};
 ghost use mathlib.Core.Bool.{true, cond};
-ghost use Prim.Native.Nat.{_+_, _<_, _≤_};
-ghost use lib.ListN.{length, getD, set};
+ghost use Prim.Native.Nat.{_+_, _<_};
+ghost use lib.ListN.{length, getD};
 ghost use Rattle.answers.specs.Shape.{memoryShaped};
 ghost use Rattle.isa.specs.Theorems.{Registers};
 ghost use Rattle.addresses.specs.Addresses.{addressOf};
 ghost use Rattle.machine.specs.Numbers.{stopNumber};
 ghost use Rattle.machine.specs.Steps.{fetchEnd, storeStart, nextAllowed, branchOf, stateOf, loadOf, storeOf, effectOf, settleOf, intentOf, Steps};
-ghost use Rattle.machine.specs.Bus.{WritesData, WritesRegister};
 ghost use Rattle.machine.specs.Runs.{Runs};
-ghost use Rattle.machine.specs.Lent.{RunsLent, WritesRegisterLent};
-ghost use Rattle.machine.specs.Inside.{InRange, Carried, RanOver, endingBy, outcomeBy, PutsRegister};
+ghost use Rattle.machine.specs.Lent.{RunsLent};
+ghost use Rattle.machine.specs.Inside.{InRange, Carried, RanOver, endingBy, outcomeBy};
 use addresses::Access;
 use answers::Refusal;
 use isa::Instr;
@@ -70,17 +68,6 @@ pub struct Ran {
 pub struct Ended {
     pub ending: Ending,
     pub count: u16,
-}
-
-// What a bus write answers.
-pub enum Written {
-    Done,
-    Refused(Refusal),
-}
-
-pub struct RegisterWritten {
-    pub state: State,
-    pub answer: Written,
 }
 
 pub fn stop_number(stop: Stop) -> u8
@@ -149,65 +136,6 @@ pub fn run_lent(
         ending: ending,
         count: ran.count,
     }
-}
-
-// A bus write to a data word: the part of memory from n onward is handed on as the data part.
-pub fn write_data(memory: &mut [u64], n: usize, address: u64, word: u64) -> Written
-    ensures { λ r. ⌜ WritesData n (now (memory .entry)) address word r (now (memory .exit)) ⌝ }
-{
-    let at = address as usize;
-    if answers::memory_shaped(memory.len(), n) {
-        if at < n {
-            return Written::Refused(Refusal::NotData);
-        }
-        if at < memory.len() {
-            put_word(&mut memory[n..], at - n, word);
-            return Written::Done;
-        }
-        return Written::Refused(Refusal::NotData);
-    }
-    Written::Refused(Refusal::Shape)
-}
-
-// A bus write to a register.
-pub fn write_register(state: State, register: u64, word: u64) -> RegisterWritten
-    ensures { λ r. ⌜ WritesRegister state register word r ⌝ }
-{
-    let mut regs = state.regs;
-    let answer = put_register(&mut regs, register, word);
-    RegisterWritten {
-        state: State {
-            regs: regs,
-            pc: state.pc,
-        },
-        answer: answer,
-    }
-}
-
-// The same bus write on a lent state.
-pub fn write_register_lent(state: &mut [u64], register: u64, word: u64) -> Written
-    ensures { λ r. ⌜ WritesRegisterLent (now (state .entry)) register word r (now (state .exit)) ⌝ }
-{
-    if state.len() < 33 {
-        return Written::Refused(Refusal::PlaceTooShort);
-    }
-    put_register(state, register, word)
-}
-
-// The word into r3 to r31, where the register is one of them.
-fn put_register(regs: &mut [u64], register: u64, word: u64) -> Written
-    requires { ⌜ 32 ≤ length (now regs) ⌝ }
-    ensures { λ r. ⌜ PutsRegister (now (regs .entry)) register word r (now (regs .exit)) ⌝ }
-{
-    let i = register as usize;
-    if i < 3 {
-        return Written::Refused(Refusal::NotRegister);
-    }
-    if i <= 31 {
-        regs[i] = word;
-        return Written::Done;
-    }
-    Written::Refused(Refusal::NotRegister)
 }
 
 // What a step is about to do: the next pc, with a register or a word of memory to write, or nothing at all.
@@ -494,11 +422,4 @@ fn wide(x: u32) -> u64
     ensures { λ r. ⌜ r ≡ x ⌝ }
 {
     x as u64
-}
-
-fn put_word(part: &mut [u64], at: usize, word: u64)
-    requires { ⌜ at < length (now part) ⌝ }
-    ensures { λ r. ⌜ now (part .exit) ≡ set (now (part .entry)) at word ⌝ }
-{
-    part[at] = word;
 }

@@ -18,8 +18,8 @@ use Rattle.machine.specs.Steps.{
   stepOf,
   stepMemory,
 }
-use Rattle.machine.specs.Bus.{writeRegisterOf}
 use Rattle.machine.specs.Runs.{runFrom, runOf}
+use Rattle.bus.specs.Bus.{writeRegisterOf}
 use Rattle.graph.specs.Claim.{isEdge, hasEdge, isDestination, idOf}
 use Rattle.guards.specs.Sequences.{fits, standsAt, endsAt}
 use Rattle.guards.specs.Rules.{insideJumpGuard, insideStoreGuard}

@@ -14,8 +14,8 @@ use Rattle.isa.specs.PostProgram.{postCode, postEdges}
 use Rattle.machine.specs.declared.Ran.{Ran}
 use Rattle.machine.specs.Numbers.{endingNumber}
 use Rattle.machine.specs.Steps.{stateOf, stepOf, stepMemory}
-use Rattle.machine.specs.Bus.{writeRegisterOf}
 use Rattle.machine.specs.Runs.{runOf}
+use Rattle.bus.specs.Bus.{writeRegisterOf}
 use Rattle.checker.specs.Verdicts.{verdictOf}
 use Rattle.parcel.specs.Parcel.{holds, readOf, parcelOf}
 use Rattle.table.specs.PostParcel.{postBytes}

@@ -1,9 +1,9 @@
--- `machine::write_register_lent` meets its contract: by what `put_register` ensures (`Lent`).
+-- `bus::write_register_lent` meets its contract: by what `put_register` ensures (`Lent`).
 use borrow.Author.Tests.{lt-ltb}
 use borrow.Author.Needs.{needs}
-use Rattle.machine.proofs.Lent.{lent-written}
-use Rattle.machine.proofs.write_register_lent.Statement.{statement}
-use Rattle.machine.proofs.write_register_lent.Tie as tie
+use Rattle.bus.proofs.Lent.{lent-written}
+use Rattle.bus.proofs.write_register_lent.Statement.{statement}
+use Rattle.bus.proofs.write_register_lent.Tie as tie
 
 pub write-register-lent-spec : {M : Type 1} → statement M
 write-register-lent-spec =

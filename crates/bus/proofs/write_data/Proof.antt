@@ -1,12 +1,12 @@
--- `machine::write_data` meets its contract: each return by the tests that led there; the store into the data part is a store into the whole.
+-- `bus::write_data` meets its contract: each return by the tests that led there; the store into the data part is a store into the whole.
 use mathlib.Core.Path.{sym, _∙_}
 use denote.Ref.{now}
 use borrow.Author.Tests.{lt-leb, le-leb, lt-ltb, le-ltb}
 use borrow.Author.Needs.{needs}
-use Rattle.machine.proofs.Bus.{put-part}
-use Rattle.machine.specs.Bus.{writeDataOf, writeDataMemory}
-use Rattle.machine.proofs.write_data.Statement.{statement}
-use Rattle.machine.proofs.write_data.Tie as tie
+use Rattle.bus.proofs.Bus.{put-part}
+use Rattle.bus.specs.Bus.{writeDataOf, writeDataMemory}
+use Rattle.bus.proofs.write_data.Statement.{statement}
+use Rattle.bus.proofs.write_data.Tie as tie
 
 pub write-data-spec : {M : Type 1} → statement M
 unfolding writeDataOf writeDataMemory

@@ -7,11 +7,12 @@ use lib.ListN.{length, set}
 use lib.Dec.{ltb, leb}
 use Rattle.answers.specs.declared.Refusal.{Refusal}
 use Rattle.answers.specs.Shape.{memoryShaped}
 use Rattle.machine.specs.declared.State.{State}
-use Rattle.machine.specs.declared.Written.{Written}
-use Rattle.machine.specs.declared.RegisterWritten.{RegisterWritten}
-use Rattle.machine.specs.Numbers.{writtenNumber, reason, firstReason}
+use Rattle.machine.specs.Numbers.{reason, firstReason}
 use Rattle.machine.specs.Steps.{stateOf}
+use Rattle.bus.specs.declared.Written.{Written}
+use Rattle.bus.specs.declared.RegisterWritten.{RegisterWritten}
+use Rattle.bus.specs.Numbers.{writtenNumber}
 
 -- "The data memory follows the code directly: D words, .. from address n."
 abbrev pub inData : ℕ → ℕ → ℕ → Bool

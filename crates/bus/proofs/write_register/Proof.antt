@@ -1,11 +1,11 @@
--- `machine::write_register` meets its contract: by what `put_register` ensures (`Lent`).
+-- `bus::write_register` meets its contract: by what `put_register` ensures (`Lent`).
 use native.Mathlib.Omega.{arith}
 use mathlib.Core.Path.{_≡_}
 use lib.ListN.{length}
 use borrow.Author.Needs.{needs}
-use Rattle.machine.proofs.Lent.{register-written}
-use Rattle.machine.proofs.write_register.Statement.{statement}
-use Rattle.machine.proofs.write_register.Tie as tie
+use Rattle.bus.proofs.Lent.{register-written}
+use Rattle.bus.proofs.write_register.Statement.{statement}
+use Rattle.bus.proofs.write_register.Tie as tie
 
 pub write-register-spec : {M : Type 1} → statement M
 write-register-spec =

@@ -1,0 +1,4 @@
+pub mod Numbers
+pub mod Bus
+pub mod Lent
+pub mod Inside
