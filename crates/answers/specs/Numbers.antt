@@ -21,3 +21,4 @@ refusalNumber Refusal.BranchTarget = 15
 refusalNumber Refusal.NotData = 16
 refusalNumber Refusal.NotRegister = 17
 refusalNumber Refusal.EdgeNotRising = 18
+refusalNumber Refusal.EdgeTooWide = 19

@@ -1,4 +1,4 @@
-// The numbers that calls give (document 01, "Numbers given, in checking order"; 18 is K3's, of document 02), by name, and the test
+// The numbers that calls give (document 01, "Numbers given, in checking order"; 18 is K3's and 19 is K6's, of document 02), by name, and the test
 // behind number 6, which every call on memory and graph makes first.
 ghost use mathlib.Core.Path.{_≡_};
 ghost use Rattle.answers.specs.Numbers.{refusalNumber};
@@ -23,6 +23,7 @@ pub enum Refusal {
     NotData,
     NotRegister,
     EdgeNotRising,
+    EdgeTooWide,
 }
 
 // Where a fault is: an edge, counted from 0, an address, or no place at all.
@@ -60,6 +61,7 @@ pub fn number(refusal: Refusal) -> u8
         Refusal::NotData => 16,
         Refusal::NotRegister => 17,
         Refusal::EdgeNotRising => 18,
+        Refusal::EdgeTooWide => 19,
     }
 }
 

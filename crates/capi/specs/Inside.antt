@@ -24,5 +24,5 @@ pub record RunNumber (order n : ℕ) (state memory : List ℕ) (r : ℕ) (state�
 
 -- a writing with its count put down, as the parcel's own answer r
 pub record WriteCounted (memory : List ℕ) (n : ℕ) (edges parcel count : List ℕ) (r : Written) (parcel′ count′ : List ℕ) : Type 0 where
-  pub answer : r ≡ writeCall memory n edges (writeShort memory n edges parcel count)
+  pub answer : r ≡ writeCall 2 memory n edges (writeShort memory n edges parcel count)
   pub leaves : WriteLeaves r memory n edges parcel count parcel′ count′

@@ -11,13 +11,14 @@ ghost use Rattle.capi.specs.Words.{DecodeCall, encodeCall};
 ghost use Rattle.capi.specs.States.{techniqueOf, StepCall, RunCall, WriteDataCall, WriteRegisterCall};
 ghost use Rattle.capi.specs.Inside.{Ordered, RunNumber, WriteCounted};
 ghost use Rattle.capi.specs.Checks.{placeAfter, VerdictPut, CheckCall};
-ghost use Rattle.parcel.specs.Parcel.{readOf, countsOf};
-ghost use Rattle.capi.specs.Parcels.{readNumber, noPlace, ReadCall, writtenParcelNumber, writtenPlace, writeCall, WriteCall, WritePlacedCall};
+ghost use Rattle.parcel.specs.Parcel.{widthOf, readOf, countsOf};
+ghost use Rattle.capi.specs.Parcels.{readNumber, noPlace, ReadPut, ReadCall, writtenParcelNumber, writtenPlace, writeCall, WriteCall, WritePlacedCall};
 use answers::Place;
 use answers::Verdict;
 use bus::Written;
 use isa::Technique;
 use machine::Ending;
+use parcel::Edition;
 use parcel::Read;
 
 #[no_mangle]
@@ -118,22 +119,12 @@ pub extern "C" fn pg_read_parcel(
     edges: &mut [u16],
     counts: &mut [u64],
 ) -> u32
-    ensures { λ r. ⌜ ReadCall (now (parcel .entry)) (now (memory .entry)) (now (edges .entry)) (now (counts .entry)) r (now (memory .exit)) (now (edges .exit)) (now (counts .exit)) ⌝ }
+    ensures { λ r. ⌜ ReadCall 2 (now (parcel .entry)) (now (memory .entry)) (now (edges .entry)) (now (counts .entry)) r (now (memory .exit)) (now (edges .exit)) (now (counts .exit)) ⌝ }
 {
     if counts.len() < 3 {
-        return number_without_place(parcel);
+        return number_without_place(Edition::First, parcel);
     }
-    match parcel::read_parcel(parcel, memory, edges) {
-        Read::Counts {
-            code,
-            edges: pairs,
-            data,
-        } => {
-            put_counts(counts, code, pairs, data);
-            0
-        }
-        Read::Refused(why, _) => wide8(answers::number(why)),
-    }
+    put_read(counts, parcel::read_parcel(parcel, memory, edges))
 }
 
 #[no_mangle]
@@ -194,13 +185,13 @@ fn write_counted(
 
 // What the writer gives where a place is too short: 6 and 18 come before 5.
 fn write_nowhere(memory: &[u64], n: usize, edges: &[u16]) -> parcel::Written
-    ensures { λ r. ⌜ r ≡ writeCall (now (memory .entry)) n (now (edges .entry)) true ⌝ }
+    ensures { λ r. ⌜ r ≡ writeCall 2 (now (memory .entry)) n (now (edges .entry)) true ⌝ }
 {
     let mut nothing = [0u8; 1];
     parcel::write_parcel(memory, n, edges, &mut nothing)
 }
 
-fn written_parcel_number(written: parcel::Written) -> u32
+pub fn written_parcel_number(written: parcel::Written) -> u32
     ensures { λ r. ⌜ r ≡ writtenParcelNumber written ⌝ }
 {
     match written {
@@ -209,7 +200,7 @@ fn written_parcel_number(written: parcel::Written) -> u32
     }
 }
 
-fn written_place(written: parcel::Written) -> Place
+pub fn written_place(written: parcel::Written) -> Place
     ensures { λ r. ⌜ r ≡ writtenPlace written ⌝ }
 {
     match written {
@@ -296,12 +287,10 @@ fn put_pair(place: &mut [u64], x: u64, y: u64)
 }
 
 // What a parcel gives where a place is too short: 1 to 4 come before 5.
-fn number_without_place(parcel: &[u8]) -> u32
-    ensures { λ r. ⌜ r ≡ readNumber (noPlace (countsOf (readOf 2 (now (parcel .entry))))) ⌝ }
+pub fn number_without_place(edition: Edition, parcel: &[u8]) -> u32
+    ensures { λ r. ⌜ r ≡ readNumber (noPlace (countsOf (readOf (widthOf edition) (now (parcel .entry))))) ⌝ }
 {
-    let mut memory = [0u64; 1];
-    let mut edges = [0u16; 1];
-    match parcel::read_parcel(parcel, &mut memory, &mut edges) {
+    match parcel::counts(edition, parcel) {
         Read::Counts {
             code: _,
             edges: _,
@@ -311,10 +300,25 @@ fn number_without_place(parcel: &[u8]) -> u32
     }
 }
 
-fn put_counts(counts: &mut [u64], code: usize, edges: usize, words: usize)
-    requires { ⌜ 3 ≤ length (now counts) ⌝ }
-    ensures { λ _. ⌜ now (counts .exit) ≡ putOver (code ∷ edges ∷ words ∷ []) (now (counts .entry)) ⌝ }
+// The answer to a reading, and its counts put down.
+pub fn put_read(counts: &mut [u64], read: Read) -> u32
+    ensures { λ r. ⌜ ReadPut read (now (counts .entry)) r (now (counts .exit)) ⌝ }
 {
+    match read {
+        Read::Counts { code, edges, data } => {
+            put_counts(counts, code, edges, data);
+            0
+        }
+        Read::Refused(why, _) => wide8(answers::number(why)),
+    }
+}
+
+fn put_counts(counts: &mut [u64], code: usize, edges: usize, words: usize)
+    ensures { λ _. ⌜ now (counts .exit) ≡ cond (shorter (now (counts .entry)) 3) (now (counts .entry)) (putOver (code ∷ edges ∷ words ∷ []) (now (counts .entry))) ⌝ }
+{
+    if counts.len() < 3 {
+        return;
+    }
     counts[0] = code as u64;
     counts[1] = edges as u64;
     counts[2] = words as u64;

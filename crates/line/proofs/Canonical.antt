@@ -32,7 +32,7 @@ sequence t memory n edges e =
     record {
       pairs = shape .even;
       narrow = λ k l.
-          omega (arith, shape .memory .code-limit, c .graph .edges-end-in-code (jumpOf edges k) (targetOf edges k) (place-listed edges k l));
+          omega (arith, shape .code-limit, c .graph .edges-end-in-code (jumpOf edges k) (targetOf edges k) (place-listed edges k l));
       rises = c .edges-rise;
     }
 

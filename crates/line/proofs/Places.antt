@@ -26,7 +26,7 @@ judge-refused s {why} {place} h = go (readOf 2 s) (read-refused s h)
     go (holds code edges words) e = clash (cc)
 
 -- what a call of `read_parcel` on places of 4,096 left
-module _ (s m g : List ℕ) (found : Read) (m₁ g₁ : List ℕ) (so : ReadSo s m g found m₁ g₁) (hm : length m ≡ 4096)
+module _ (s m g : List ℕ) (found : Read) (m₁ g₁ : List ℕ) (so : ReadSo 2 s m g found m₁ g₁) (hm : length m ≡ 4096)
     (hg : length g ≡ 4096) {c e d : ℕ} (h : found ≡ Read.Counts c e d) where
   pub judge-read :
       judged (verdictOf Technique.Plain (take (c + d) m₁) c (take (e * 2) g₁)) c e d ≡ answerOf (readOf 2 s)

@@ -1,5 +1,5 @@
 -- Document 02, K3: "Two accepted parcels of one edition with the same code, graph and data are then the same bytes." An edge number
--- has w bytes in the edition; today w is 2. `proofs/Canonical.antt` has the proof.
+-- has w bytes in the edition: 2 in the first, 4 in the second (K6). `proofs/Canonical.antt` has the proof.
 use Prim.Native.Nat.{ℕ}
 use mathlib.Core.Path.{_≡_}
 use mathlib.Core.List.{List, _++_}

@@ -29,7 +29,7 @@ passed : (b : Bool) (why : Refusal) (x : Count) {k : ℕ} → cond b (Count.Refu
 passed true why x h = clash (cc)
 passed false why x h = (refl, h)
 
-neither : (a b : Bool) → (a || b) ≡ false → (a ≡ false) × (b ≡ false)
+pub neither : (a b : Bool) → (a || b) ≡ false → (a ≡ false) × (b ≡ false)
 neither true b h = clash (cc)
 neither false b h = (refl, h)
 

@@ -1,10 +1,8 @@
 -- What reading into places of 4,096 leaves to be checked, and that no parcel needs more.
 use Prim.Native.Nat.{ℕ, _+_, _*_, _/_, _≤_}
 use mathlib.Core.Path.{_≡_, refl, ap, sym, _∙_}
-use mathlib.Core.Bool.{Bool, true, false, cond, _||_}
 use mathlib.Core.List.{List, _++_}
 use native.Mathlib.Omega.{arith}
-use lib.Dec.{ltb}
 use lib.ListN.{length, take, drop, length-append}
 use lib.Seq.{take-at}
 use borrow.Author.Tests.{le-ltb}
@@ -15,25 +13,14 @@ use Rattle.parcel.specs.declared.Read.{Read}
 use Rattle.parcel.specs.Bytes.{numbersOf}
 use Rattle.parcel.specs.Parcel.{Content, holds, refused, readOf, countsOf, roomFor, edgesIn, ReadSo}
 use Rattle.parcel.proofs.Runs.{length-numbers}
-use Rattle.parcel.proofs.ReaderAnswers.{Whole, whole}
-
--- the counts, where the places suffice
-room-counts : (x : Content) {c e d : ℕ} → roomFor 4096 4096 x ≡ Read.Counts c e d → countsOf x ≡ Read.Counts c e d
-room-counts (refused why) h = h
-room-counts (holds code edges words) h = go (ltb 4096 (length code + length words) || ltb 4096 (length edges)) h
-  where
-    go : (b : Bool) {c e d : ℕ}
-        → cond b (Read.Refused Refusal.PlaceTooShort Place.Nowhere) (Read.Counts (length code) (length edges / 2) (length words)) ≡ Read.Counts c e d
-        → Read.Counts (length code) (length edges / 2) (length words) ≡ Read.Counts c e d
-    go true h = clash (cc)
-    go false h = h
+use Rattle.parcel.proofs.ReaderAnswers.{Whole, whole, counts-read}
 
 -- what a parcel holds fits into places of 4,096
 holds-fits : (s code edges words : List ℕ) → readOf 2 s ≡ holds code edges words
     → (length code + length words ≤ 4096) × (length edges ≤ 4096)
-holds-fits s code edges words h = go (whole s (ap countsOf h))
+holds-fits s code edges words h = go (whole 2 s (ap countsOf h))
   where
-    go : Whole s (length code) (length edges / 2) (length words) → (length code + length words ≤ 4096) × (length edges ≤ 4096)
+    go : Whole 2 s (length code) (length edges / 2) (length words) → (length code + length words ≤ 4096) × (length edges ≤ 4096)
     go w =
         let same : edges ≡ numbersOf 2 (length edges / 2 * 2) _ = ap edgesIn (sym h ∙ w .is) in
         let even : length edges ≡ length edges / 2 * 2 = ap length same ∙ length-numbers 2 (length edges / 2 * 2) _ in
@@ -51,10 +38,10 @@ read-refused s {why} {place} = go (readOf 2 s) refl
         clash (let k = rw (le-ltb 4096 (length code + length words) (f .0), le-ltb 4096 (length edges) (f .1)) at h in cc)
 
 -- what a call of `read_parcel` on places of 4,096 left
-module _ (s m g : List ℕ) (found : Read) (m₁ g₁ : List ℕ) (so : ReadSo s m g found m₁ g₁) (hm : length m ≡ 4096)
+module _ (s m g : List ℕ) (found : Read) (m₁ g₁ : List ℕ) (so : ReadSo 2 s m g found m₁ g₁) (hm : length m ≡ 4096)
     (hg : length g ≡ 4096) {c e d : ℕ} (h : found ≡ Read.Counts c e d) where
-  pub is-whole : Whole s c e d
-  is-whole = whole s (room-counts (readOf 2 s) (sym (rw (hm, hg) at (so .answers)) ∙ h))
+  pub is-whole : Whole 2 s c e d
+  is-whole = whole 2 s (counts-read (readOf 2 s) 4096 4096 (sym h ∙ rw (hm, hg) at (so .answers)))
 
   abbrev pub code : List ℕ
   code = numbersOf 8 c (drop 4 s)

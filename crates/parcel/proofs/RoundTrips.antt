@@ -46,10 +46,10 @@ numbers-of-bytes w (x ∷ xs) t h =
     ∙ (λ j. number-of-bytes w x after (h 0) j ∷ numbersOf w (length xs) (drop-at (bytesOf w x) after w (length-bytes w x) j))
     ∙ ap (λ (l : List ℕ). x ∷ l) (numbers-of-bytes w xs t (λ i. h (suc i)))
 
-below-drop : {b : ℕ} (n : ℕ) (s : List ℕ) → AllBelow b s → AllBelow b (drop n s)
+pub below-drop : {b : ℕ} (n : ℕ) (s : List ℕ) → AllBelow b s → AllBelow b (drop n s)
 below-drop {b} n s h i = subst (λ (x : ℕ). x < b) (sym (getD-drop n s i 0)) (h (n + i))
 
-bytes-of-numbers : (w k : ℕ) (s : List ℕ) → AllBelow 256 s → k * w ≤ length s → allBytesOf w (numbersOf w k s) ≡ take (k * w) s
+pub bytes-of-numbers : (w k : ℕ) (s : List ℕ) → AllBelow 256 s → k * w ≤ length s → allBytesOf w (numbersOf w k s) ≡ take (k * w) s
 unfolding numbersOf allBytesOf
 bytes-of-numbers w zero s h l = ap (λ (n : ℕ). take n s) (sym (zero-mul w))
 bytes-of-numbers w (suc k) s h l =
@@ -141,15 +141,13 @@ below-take {b} (suc n) (x ∷ s) pos h zero = h 0
 below-take {b} (suc n) (x ∷ s) pos h (suc i) = below-take n s pos (λ j. h (suc j)) i
 
 pub read-written : ReadWritten
-read-written m n g h =
+read-written w m n g h =
     let t = well-shaped (length m) n (length g) (h .shape) in
-    let f = t .memory in
-    let few = t .few in
-    let long = length-take-le n m (f .within) in
+    let long = length-take-le n m (t .within) in
     let rest = length-drop n m in
     let pairs : length g ≡ length g / 2 * 2 = omega (arith, t .even) in
-    parcel-read 2 (length g / 2) (take n m) g (drop n m) (omega arith) (omega arith) pairs (omega arith) (omega arith)
+    parcel-read w (length g / 2) (take n m) g (drop n m) (omega arith) (omega arith) pairs (omega arith) (omega arith)
     (below-take n m (zero-lt-suc 18446744073709551615) (h .words)) (h .numbers) (below-drop n m (h .words))
 
 pub written-read : WrittenRead
-written-read s code edges words below h = parcel-written 2 s below h
+written-read w s code edges words below h = parcel-written w s below h

@@ -11,7 +11,7 @@ use Rattle.parcel.specs.Parcel.{sectionOf, parcelOf}
 use Rattle.parcel.proofs.Numbers.{length-bytes, sets-append}
 use Rattle.parcel.proofs.Runs.{length-all-bytes, over-front}
 
-length-section : (w p : ℕ) (xs : List ℕ) → length (sectionOf w p xs) ≡ 4 + length xs * w
+pub length-section : (w p : ℕ) (xs : List ℕ) → length (sectionOf w p xs) ≡ 4 + length xs * w
 unfolding sectionOf
 length-section w p xs =
     length-append (bytesOf 4 (length xs / p)) (allBytesOf w xs) ∙ ap₂ (λ (a b : ℕ). a + b) (length-bytes 4 _) (length-all-bytes w xs)

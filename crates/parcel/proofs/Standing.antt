@@ -56,17 +56,25 @@ module _ {s : RefT (List ℕ)} {r : Reader} {at : ℕ} (t : Stands s r at) where
 
 -- ---- what the counts come to
 
-module _ (s : List ℕ) (left : ℕ) where
-  ended : {n e d : ℕ} → countOf 8 1 s ≡ Count.Items n → countOf 4 0 (drop (4 + n * 8) s) ≡ Count.Items e → countOf 8 0 (drop (4 + n * 8 + (4 + e * 4)) s) ≡ Count.Items d
-      → left + (4 + n * 8 + (4 + e * 4) + (4 + d * 8)) ≡ length s → (more : Bool) → ltb 0 left ≡ more → settledOf left (Count.Items n) (Count.Items e) (Count.Items d) ≡ countsOf (readOf 2 s)
-  ended h₁ h₂ h₃ l true m = rw m (sym (ap countsOf (bytes-left 2 s h₁ h₂ h₃ (omega (arith, ltb-true 0 left m)))))
+module _ (s : List ℕ) (left w : ℕ) where
+  ended : {n e d : ℕ} → countOf 8 1 s ≡ Count.Items n → countOf (2 * w) 0 (drop (4 + n * 8) s) ≡ Count.Items e → countOf 8 0 (drop (4 + n * 8 + (4 + e * (2 * w))) s) ≡ Count.Items d
+      → left + (4 + n * 8 + (4 + e * (2 * w)) + (4 + d * 8)) ≡ length s → (more : Bool) → ltb 0 left ≡ more → settledOf left (Count.Items n) (Count.Items e) (Count.Items d) ≡ countsOf (readOf w s)
+  ended h₁ h₂ h₃ l true m = rw m (sym (ap countsOf (bytes-left w s h₁ h₂ h₃ (omega (arith, ltb-true 0 left m)))))
   ended {n} {e} {d} h₁ h₂ h₃ l false m =
       let half : e * 2 / 2 ≡ e = omega arith in
-      rw m (sym (simp (length-numbers, half) at (ap countsOf (all-read 2 s h₁ h₂ h₃ (omega (arith, ltb-false 0 left m))))))
+      rw m (sym (simp (length-numbers, half) at (ap countsOf (all-read w s h₁ h₂ h₃ (omega (arith, ltb-false 0 left m))))))
 
-  pub settles : (c₁ c₂ c₃ : Count) → c₁ ≡ countOf 8 1 s → c₂ ≡ countOf 4 0 (drop (endOf 8 0 c₁) s) → c₃ ≡ countOf 8 0 (drop (endOf 4 (endOf 8 0 c₁) c₂) s)
-      → left + endOf 8 (endOf 4 (endOf 8 0 c₁) c₂) c₃ ≡ length s → settledOf left c₁ c₂ c₃ ≡ countsOf (readOf 2 s)
-  settles (Count.Refused why) c₂ c₃ h₁ h₂ h₃ l = sym (ap countsOf (code-refused 2 s (sym h₁)))
-  settles (Count.Items n) (Count.Refused why) c₃ h₁ h₂ h₃ l = sym (ap countsOf (edges-refused 2 s (sym h₁) (sym (simp zero-add at h₂))))
-  settles (Count.Items n) (Count.Items e) (Count.Refused why) h₁ h₂ h₃ l = sym (ap countsOf (data-refused 2 s (sym h₁) (sym (simp zero-add at h₂)) (sym (simp zero-add at h₃))))
-  settles (Count.Items n) (Count.Items e) (Count.Items d) h₁ h₂ h₃ l = ended (sym h₁) (sym (simp zero-add at h₂)) (sym (simp zero-add at h₃)) (omega arith) _ refl
+  come-to : (c₁ c₂ c₃ : Count) → c₁ ≡ countOf 8 1 s → c₂ ≡ countOf (2 * w) 0 (drop (endOf 8 0 c₁) s) → c₃ ≡ countOf 8 0 (drop (endOf (2 * w) (endOf 8 0 c₁) c₂) s)
+      → left + endOf 8 (endOf (2 * w) (endOf 8 0 c₁) c₂) c₃ ≡ length s → settledOf left c₁ c₂ c₃ ≡ countsOf (readOf w s)
+  come-to (Count.Refused why) c₂ c₃ h₁ h₂ h₃ l = sym (ap countsOf (code-refused w s (sym h₁)))
+  come-to (Count.Items n) (Count.Refused why) c₃ h₁ h₂ h₃ l = sym (ap countsOf (edges-refused w s (sym h₁) (sym (simp zero-add at h₂))))
+  come-to (Count.Items n) (Count.Items e) (Count.Refused why) h₁ h₂ h₃ l = sym (ap countsOf (data-refused w s (sym h₁) (sym (simp zero-add at h₂)) (sym (simp zero-add at h₃))))
+  come-to (Count.Items n) (Count.Items e) (Count.Items d) h₁ h₂ h₃ l = ended (sym h₁) (sym (simp zero-add at h₂)) (sym (simp zero-add at h₃)) (omega arith) _ refl
+
+-- with an edge of two numbers
+pub settles : (s : List ℕ) (left size w : ℕ) → size ≡ 2 * w → (c₁ c₂ c₃ : Count) → c₁ ≡ countOf 8 1 s → c₂ ≡ countOf size 0 (drop (endOf 8 0 c₁) s)
+    → c₃ ≡ countOf 8 0 (drop (endOf size (endOf 8 0 c₁) c₂) s) → left + endOf 8 (endOf size (endOf 8 0 c₁) c₂) c₃ ≡ length s → settledOf left c₁ c₂ c₃ ≡ countsOf (readOf w s)
+settles s left size w q c₁ c₂ c₃ h₁ h₂ h₃ l =
+    come-to s left w c₁ c₂ c₃ h₁ (h₂ ∙ ap (λ (z : ℕ). countOf z 0 (drop (endOf 8 0 c₁) s)) q)
+    (h₃ ∙ ap (λ (z : ℕ). countOf 8 0 (drop (endOf z (endOf 8 0 c₁) c₂) s)) q)
+    (ap (λ (z : ℕ). left + endOf 8 (endOf z (endOf 8 0 c₁) c₂) c₃) (sym q) ∙ l)

@@ -1,5 +1,5 @@
--- What a parcel holds, and what reading and writing it answer (document 01, "Parcel", and numbers 1 to 6; document 02, K3).
--- An edge number has w bytes; today w is 2.
+-- What a parcel holds, and what reading and writing it answer (document 01, "Parcel", and numbers 1 to 6; document 02, K3 and K6).
+-- An edge number has w bytes, which the edition tells.
 use Prim.Native.Nat.{ℕ, _+_, _*_, _-_, _/_}
 use mathlib.Core.Path.{_≡_}
 use mathlib.Core.Bool.{Bool, cond, _||_}
@@ -13,9 +13,15 @@ use Rattle.parcel.specs.Bytes.{numberOf, bytesOf, numbersOf, allBytesOf}
 use Rattle.lists.specs.Places.{shorter, putOver}
 use Rattle.graph.specs.Claim.{edgeCount}
 use Rattle.rising.specs.Rising.{firstNotRising}
+use Rattle.parcel.specs.declared.Edition.{Edition}
 use Rattle.parcel.specs.declared.reader.Count.{Count}
 use Rattle.parcel.specs.declared.Read.{Read}
 use Rattle.parcel.specs.declared.Written.{Written}
+
+-- Document 01: "16 bits each"; K6: "A second parcel edition has edge addresses of 32 bits, everything else alike"
+abbrev pub widthOf : Edition → ℕ
+widthOf Edition.First = 2
+widthOf Edition.Second = 4
 
 -- "1. Fewer than four bytes are left for a count. 2. The count breaks the section's limits. 3. The bytes for the section's items are not all there."
 -- s is what is left of the parcel; an item has size bytes, and there are low to 2,048 of them.
@@ -79,10 +85,10 @@ afterRead (Read.Counts code edges words) new old = putOver new old
 afterRead (Read.Refused why place) new old = old
 
 -- what reading the bytes s into the memory m and the edges g comes to
-pub record ReadSo (s m g : List ℕ) (answer : Read) (m′ g′ : List ℕ) : Type 0 where
-  pub answers : answer ≡ roomFor (length m) (length g) (readOf 2 s)
-  pub memory : m′ ≡ afterRead answer (memoryIn (readOf 2 s)) m
-  pub edges : g′ ≡ afterRead answer (edgesIn (readOf 2 s)) g
+pub record ReadSo (w : ℕ) (s m g : List ℕ) (answer : Read) (m′ g′ : List ℕ) : Type 0 where
+  pub answers : answer ≡ roomFor (length m) (length g) (readOf w s)
+  pub memory : m′ ≡ afterRead answer (memoryIn (readOf w s)) m
+  pub edges : g′ ≡ afterRead answer (edgesIn (readOf w s)) g
 
 -- the bytes of a section of items of p numbers, w bytes each: their count, then the numbers
 unfoldable pub sectionOf : ℕ → ℕ → List ℕ → List ℕ
@@ -108,9 +114,9 @@ afterWrite (Written.Bytes k) new old = putOver new old
 afterWrite (Written.Refused why place) new old = old
 
 -- what writing the memory m, its first n words code, and the edges g over the bytes s comes to
-pub record WrittenSo (m : List ℕ) (n : ℕ) (g s : List ℕ) (answer : Written) (s′ : List ℕ) : Type 0 where
+pub record WrittenSo (w : ℕ) (m : List ℕ) (n : ℕ) (g s : List ℕ) (answer : Written) (s′ : List ℕ) : Type 0 where
   pub answers :
       answer
-      ≡ writtenOf (callShaped (length m) n (length g)) g (shorter s (length (parcelOf 2 (take n m) g (drop n m))))
-      (parcelOf 2 (take n m) g (drop n m))
-  pub bytes : s′ ≡ afterWrite answer (parcelOf 2 (take n m) g (drop n m)) s
+      ≡ writtenOf (callShaped (length m) n (length g)) g (shorter s (length (parcelOf w (take n m) g (drop n m))))
+      (parcelOf w (take n m) g (drop n m))
+  pub bytes : s′ ≡ afterWrite answer (parcelOf w (take n m) g (drop n m)) s

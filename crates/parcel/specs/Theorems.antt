@@ -1,5 +1,6 @@
 -- The reader and the writer give back each other: of what bytes hold, and of the two calls, whatever else is in the places lent to them.
--- The writer writes where the edges rise (document 02, K3), and so the calls give back each other there.
+-- The writer writes where the edges rise (document 02, K3), and so the calls give back each other there. An edge number has w bytes: 2 in
+-- the first edition, 4 in the second (K6), and each theorem is over any w.
 use Prim.Native.Nat.{ℕ, _+_, _*_, _-_, _/_, _^_, _≤_, _<_}
 use mathlib.Core.Path.{_≡_}
 use mathlib.Core.Bool.{true}
@@ -19,19 +20,21 @@ abbrev pub AllBelow : ℕ → List ℕ → Type 0
 AllBelow b xs = (i : ℕ) → getD xs i 0 < b
 
 -- a memory and a graph that every call takes (number 6)
-pub record WellFormed (m : List ℕ) (n : ℕ) (g : List ℕ) : Type 0 where
+pub record WellFormed (w : ℕ) (m : List ℕ) (n : ℕ) (g : List ℕ) : Type 0 where
   pub shape : callShaped (length m) n (length g) ≡ true
   pub words : AllBelow (2 ^ 64) m
-  pub numbers : AllBelow (2 ^ 16) g
+  pub numbers : AllBelow (256 ^ w) g
 
 -- reading what was written gives the same code, edges and data
 abbrev pub ReadWritten : Type 0
 ReadWritten =
-    (m : List ℕ) (n : ℕ) (g : List ℕ) → WellFormed m n g → readOf 2 (parcelOf 2 (take n m) g (drop n m)) ≡ holds (take n m) g (drop n m)
+    (w : ℕ) (m : List ℕ) (n : ℕ) (g : List ℕ) → WellFormed w m n g
+    → readOf w (parcelOf w (take n m) g (drop n m)) ≡ holds (take n m) g (drop n m)
 
 -- writing what was read gives the same bytes
 abbrev pub WrittenRead : Type 0
-WrittenRead = (s code edges words : List ℕ) → AllBelow 256 s → readOf 2 s ≡ holds code edges words → parcelOf 2 code edges words ≡ s
+WrittenRead =
+    (w : ℕ) (s code edges words : List ℕ) → AllBelow 256 s → readOf w s ≡ holds code edges words → parcelOf w code edges words ≡ s
 
 -- the same of the calls. Bytes s written over p, in a place that is long enough
 pub record WrittenBack (s p : List ℕ) (answer : Written) (p′ : List ℕ) : Type 0 where
@@ -46,12 +49,12 @@ pub record NotWritten (g p : List ℕ) (answer : Written) (p′ : List ℕ) : Ty
   pub unchanged : p′ ≡ p
 
 -- a memory and a graph that every call takes are written exactly where the edges rise, whatever the words; elsewhere it is 18
-pub record WrittenWhereRising : Type 0 where
-  pub rising : (m : List ℕ) (n : ℕ) (g p p′ : List ℕ) (answer : Written) → WrittenSo m n g p answer p′
-      → callShaped (length m) n (length g) ≡ true → length (parcelOf 2 (take n m) g (drop n m)) ≤ length p → Rising g
-      → WrittenBack (parcelOf 2 (take n m) g (drop n m)) p answer p′
-  pub only : (m : List ℕ) (n : ℕ) (g p p′ : List ℕ) (k : ℕ) → WrittenSo m n g p (Written.Bytes k) p′ → Rising g
-  pub otherwise : (m : List ℕ) (n : ℕ) (g p p′ : List ℕ) (answer : Written) → WrittenSo m n g p answer p′
+pub record WrittenWhereRising (w : ℕ) : Type 0 where
+  pub rising : (m : List ℕ) (n : ℕ) (g p p′ : List ℕ) (answer : Written) → WrittenSo w m n g p answer p′
+      → callShaped (length m) n (length g) ≡ true → length (parcelOf w (take n m) g (drop n m)) ≤ length p → Rising g
+      → WrittenBack (parcelOf w (take n m) g (drop n m)) p answer p′
+  pub only : (m : List ℕ) (n : ℕ) (g p p′ : List ℕ) (k : ℕ) → WrittenSo w m n g p (Written.Bytes k) p′ → Rising g
+  pub otherwise : (m : List ℕ) (n : ℕ) (g p p′ : List ℕ) (answer : Written) → WrittenSo w m n g p answer p′
       → callShaped (length m) n (length g) ≡ true → (Rising g → ⊥) → NotWritten g p answer p′
 
 -- What the writer left, read into places that are long enough: the counts, and the same memory and edges
@@ -62,13 +65,14 @@ pub record ReadBack (m : List ℕ) (n : ℕ) (g m₀ g₀ : List ℕ) (answer : 
 
 abbrev pub ReadAfterWrite : Type 0
 ReadAfterWrite =
-    (m : List ℕ) (n : ℕ) (g s s′ : List ℕ) (k : ℕ) → WrittenSo m n g s (Written.Bytes k) s′ → AllBelow (2 ^ 64) m → AllBelow (2 ^ 16) g
-    → (m₀ g₀ m₁ g₁ : List ℕ) (answer : Read) → ReadSo (take k s′) m₀ g₀ answer m₁ g₁ → length m ≤ length m₀ → length g ≤ length g₀
+    (w : ℕ) (m : List ℕ) (n : ℕ) (g s s′ : List ℕ) (k : ℕ) → WrittenSo w m n g s (Written.Bytes k) s′ → AllBelow (2 ^ 64) m
+    → AllBelow (256 ^ w) g → (m₀ g₀ m₁ g₁ : List ℕ) (answer : Read) → ReadSo w (take k s′) m₀ g₀ answer m₁ g₁ → length m ≤ length m₀
+    → length g ≤ length g₀
     → ReadBack m n g m₀ g₀ answer m₁ g₁
 
 -- what the reader put, of the bytes s, handed to the writer: the places lent to the reader as they were and as it left them, and the
 -- counts that it answered, by which the writer gets their fronts
-pub record ReadThenWritten (s p : List ℕ) (answer : Written) (p′ : List ℕ) : Type 0 where
+pub record ReadThenWritten (w : ℕ) (s p : List ℕ) (answer : Written) (p′ : List ℕ) : Type 0 where
   pub memory : List ℕ
   pub numbers : List ℕ
   pub memory-read : List ℕ
@@ -77,18 +81,18 @@ pub record ReadThenWritten (s p : List ℕ) (answer : Written) (p′ : List ℕ)
   pub e : ℕ
   pub d : ℕ
   pub are-bytes : AllBelow 256 s
-  pub read : ReadSo s memory numbers (Read.Counts n e d) memory-read numbers-read
-  pub written : WrittenSo (take (n + d) memory-read) n (take (e * 2) numbers-read) p answer p′
+  pub read : ReadSo w s memory numbers (Read.Counts n e d) memory-read numbers-read
+  pub written : WrittenSo w (take (n + d) memory-read) n (take (e * 2) numbers-read) p answer p′
 
 -- it gives back the same bytes exactly where the edges of the bytes rise, and is 18 where they don't
-pub record WriteAfterRead : Type 0 where
-  pub rising : (s p p′ : List ℕ) (answer : Written) → ReadThenWritten s p answer p′ → length s ≤ length p → Rising (edgesIn (readOf 2 s))
+pub record WriteAfterRead (w : ℕ) : Type 0 where
+  pub rising : (s p p′ : List ℕ) (answer : Written) → ReadThenWritten w s p answer p′ → length s ≤ length p → Rising (edgesIn (readOf w s))
       → WrittenBack s p answer p′
-  pub only : (s p p′ : List ℕ) (answer : Written) → ReadThenWritten s p answer p′ → WrittenBack s p answer p′
-      → Rising (edgesIn (readOf 2 s))
-  pub otherwise : (s p p′ : List ℕ) (answer : Written) → ReadThenWritten s p answer p′ → (Rising (edgesIn (readOf 2 s)) → ⊥)
-      → NotWritten (edgesIn (readOf 2 s)) p answer p′
+  pub only : (s p p′ : List ℕ) (answer : Written) → ReadThenWritten w s p answer p′ → WrittenBack s p answer p′
+      → Rising (edgesIn (readOf w s))
+  pub otherwise : (s p p′ : List ℕ) (answer : Written) → ReadThenWritten w s p answer p′ → (Rising (edgesIn (readOf w s)) → ⊥)
+      → NotWritten (edgesIn (readOf w s)) p answer p′
 
--- no parcel is longer than 40,972 bytes, so a longer input is read as its first 40,973 bytes are, or any more of them
+-- no parcel of the first edition is longer than 40,972 bytes, so a longer input is read as its first 40,973 bytes are, or any more of them
 abbrev pub FrontSuffices : Type 0
 FrontSuffices = (s : List ℕ) (k : ℕ) → 40973 ≤ k → k ≤ length s → readOf 2 (take k s) ≡ readOf 2 s

@@ -30,6 +30,18 @@ pub(crate) fn edges_into(s: &[u8], at: usize, k: usize, to: &mut [u16])
     }
 }
 
+// The k edge numbers of four bytes from at, into the front of to.
+pub(crate) fn wide_edges_into(s: &[u8], at: usize, k: usize, to: &mut [u32])
+    requires { ⌜ (at + k * 4 ≤ length (now s)) × (k ≤ length (now to)) ⌝ }
+    ensures { λ _. ⌜ now (to .exit) ≡ putOver (numbersOf 4 k (drop at (now (s .entry)))) (now (to .entry)) ⌝ }
+{
+    let mut i = 0;
+    while i < k {
+        to[i] = four_at(s, at + i * 4);
+        i += 1;
+    }
+}
+
 // The words xs, eight bytes each, from at on.
 pub(crate) fn put_words(s: &mut [u8], at: usize, xs: &[u64])
     requires { ⌜ at + length (now xs) * 8 ≤ length (now s) ⌝ }
@@ -50,6 +62,18 @@ pub(crate) fn put_edges(s: &mut [u8], at: usize, xs: &[u16])
     let mut i = 0;
     while i < xs.len() {
         put_two(s, at + i * 2, xs[i]);
+        i += 1;
+    }
+}
+
+// The edge numbers xs, four bytes each, from at on.
+pub(crate) fn put_wide_edges(s: &mut [u8], at: usize, xs: &[u32])
+    requires { ⌜ at + length (now xs) * 4 ≤ length (now s) ⌝ }
+    ensures { λ _. ⌜ now (s .exit) ≡ sets (now (s .entry)) at (allBytesOf 4 (now (xs .entry))) ⌝ }
+{
+    let mut i = 0;
+    while i < xs.len() {
+        put_four(s, at + i * 4, xs[i]);
         i += 1;
     }
 }

@@ -6,8 +6,8 @@ use answers::Refusal;
 ghost use mathlib.Core.Path.{_≡_};
 ghost use Prim.Native.Nat.{_+_, _≤_};
 ghost use lib.ListN.{length, drop};
-ghost use Rattle.parcel.specs.Parcel.{countOf, readOf, countsOf};
-ghost use Rattle.parcel.specs.Inner.{endOf, settledOf};
+ghost use Rattle.parcel.specs.Parcel.{countOf};
+ghost use Rattle.parcel.specs.Inner.{CountsAt, endOf, settledOf};
 
 pub(crate) struct Reader<'a> {
     pub(crate) bytes: &'a [u8],
@@ -20,15 +20,16 @@ pub(crate) enum Count {
     Refused(Refusal),
 }
 
-// How many code words, edges and data words a parcel holds.
-pub(crate) fn counts(parcel: &[u8]) -> Read
-    ensures { λ r. ⌜ r ≡ countsOf (readOf 2 (now (parcel .entry))) ⌝ }
+// How many code words, edges of `size` bytes and data words a parcel holds.
+pub(crate) fn counts(parcel: &[u8], size: usize) -> Read
+    requires { ⌜ size ≤ 8 ⌝ }
+    ensures { λ r. ⌜ CountsAt size (now (parcel .entry)) r ⌝ }
 {
     let at_code = start(parcel);
     let code = next(at_code, 8, 1);
     let at_edges = past(at_code, code, 8);
-    let edges = next(at_edges, 4, 0);
-    let at_words = past(at_edges, edges, 4);
+    let edges = next(at_edges, size, 0);
+    let at_words = past(at_edges, edges, size);
     let words = next(at_words, 8, 0);
     let at_end = past(at_words, words, 8);
     settled(left(at_end), code, edges, words)

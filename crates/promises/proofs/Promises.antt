@@ -7,6 +7,7 @@ use Rattle.integrity.proofs.Traversal.{run-is-its-steps}
 use Rattle.integrity.proofs.Shown.{programs-accepted, calls-made, stop-four-shown}
 use Rattle.parcel.proofs.RoundTrips.{read-written, written-read}
 use Rattle.parcel.proofs.Calls.{written-where-rising, read-after-write, write-after-read}
+use Rattle.editions.proofs.Theorems.{two-editions}
 use Rattle.line.proofs.Theorems.{prefix-suffices}
 use Rattle.line.proofs.Canonical.{accepted-parcels-canonical}
 use Rattle.table.proofs.Table.{table}
@@ -18,6 +19,7 @@ use Rattle.totals.proofs.Lists.{counted-exactly, totals-of-list}
 use Rattle.totals.proofs.Examples.{totals-shown}
 use Rattle.capi.proofs.Unchanged.{refused-changes-nothing}
 use Rattle.owner.proofs.Unchanged.{refused-reports-change-nothing}
+use Rattle.wide.proofs.Unchanged.{refused-wide-calls-change-nothing}
 use Rattle.promises.specs.Promises.{Promises}
 
 pub kept : Promises
@@ -50,5 +52,7 @@ kept =
       edges-as-listed = edges-as-listed;
       past-top-stops = past-top-stops;
       past-top-shown = past-top-shown;
+      two-editions = two-editions;
+      refused-wide-calls-change-nothing = refused-wide-calls-change-nothing;
       rows = table;
     }

@@ -2,8 +2,8 @@
 -- crate, and nothing is stated here anew; `proofs/Promises.antt` has the term that holds them all.
 --
 -- That every call ends, does nothing undefined and answers what its definition says is each function's own contract, in `src/`:
--- `decode` is `decodeOf`, `check` is `verdictOf`, `step` is `stepOf`, `run` is `runOf`, `read_parcel` is `readOf`,
--- `report` is `reportOf`, and so on.
+-- `decode` is `decodeOf`, `check` and `check_wide` are `verdictOf`, `step` is `stepOf`, `run` is `runOf`, `read_parcel` is `readOf 2`,
+-- `read_wide_parcel` is `readOf 4`, `report` is `reportOf`, and so on.
 use Prim.Native.Nat.{ℕ}
 use mathlib.Core.List.{List}
 use Rattle.isa.specs.declared.Technique.{Technique}
@@ -14,6 +14,7 @@ use Rattle.checker.specs.Theorems.{AcceptedExactly}
 use Rattle.integrity.specs.Demand.{Demand3, StopFourAtJumps, RunIsItsSteps}
 use Rattle.integrity.specs.Examples.{ProgramsAccepted, CallsMade, StopFourShown}
 use Rattle.parcel.specs.Theorems.{ReadWritten, WrittenRead, WrittenWhereRising, ReadAfterWrite, WriteAfterRead}
+use Rattle.editions.specs.Theorems.{TwoEditions}
 use Rattle.line.specs.Theorems.{PrefixSuffices}
 use Rattle.line.specs.Canonical.{AcceptedParcelsCanonical}
 use Rattle.table.specs.Table.{Table}
@@ -24,17 +25,18 @@ use Rattle.totals.specs.Theorems.{CountedExactly, TotalsOfList}
 use Rattle.totals.specs.Examples.{TotalsShown}
 use Rattle.capi.specs.Theorems.{RefusedChangesNothing}
 use Rattle.owner.specs.Theorems.{RefusedReportsChangeNothing}
+use Rattle.wide.specs.Theorems.{RefusedWideCallsChangeNothing}
 
 pub record Promises : Type 0 where
   -- Instruction words, written and read, give back each other.
   pub words : RoundTrips
-  -- Parcels, written and read, give back each other: what their bytes hold,
+  -- Parcels, written and read, give back each other, in both editions (an edge number has w bytes: 2 or 4): what their bytes hold,
   pub parcel-read-back : ReadWritten
   pub parcel-written-back : WrittenRead
   -- and the two calls, whatever else stands in the places lent to them. What was written and is read gives back; what was read and is
   -- written gives back exactly where the edges of the bytes rise (K3), and is 18 where they don't.
   pub read-after-write : ReadAfterWrite
-  pub write-after-read : WriteAfterRead
+  pub write-after-read : (w : ℕ) → WriteAfterRead w
   -- The first 40,973 bytes of an input decide what `verdict` prints.
   pub prefix-suffices : PrefixSuffices
   -- Code is accepted exactly where it meets the published conditions, plain (with the clause of K2) or with memory guards, and its edges
@@ -73,12 +75,17 @@ pub record Promises : Type 0 where
   -- K3: two accepted parcels of one edition with the same code, graph and data are the same bytes;
   pub accepted-parcels-canonical : AcceptedParcelsCanonical
   -- a memory and a graph of the right shape are written exactly where the edges rise, and 18 elsewhere;
-  pub written-where-rising : WrittenWhereRising
+  pub written-where-rising : (w : ℕ) → WrittenWhereRising w
   -- and the distinct edges of K1 are, of an accepted program, its edges as listed.
   pub edges-as-listed : EdgesAsListed
   -- K5: a load or a store whose exact sum is two to the 64 or more is stop 3, and changes nothing;
   pub past-top-stops : (t : Technique) (n : ℕ) (memory : List ℕ) (s : State) → PastTopStops t n memory s
   -- shown in an accepted program whose store would come round to the first data word.
   pub past-top-shown : PastTopShown
+  -- K6: widening loses nothing, and narrowing and widening give back each other's bytes; where a parcel converts, it gets the same verdict in
+  -- both editions, and what 19 turns away, the checkers refuse with 7 or 8.
+  pub two-editions : TwoEditions
+  -- A call on the second edition from C or Rust that is refused changes nothing that was lent.
+  pub refused-wide-calls-change-nothing : RefusedWideCallsChangeNothing
   -- The starred rows of document 01.
   pub rows : Table

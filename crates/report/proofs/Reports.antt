@@ -40,7 +40,7 @@ refused-parcel t s {why} {place} h = go (readOf 2 s) (read-refused s h)
     go (refused w) e = cc
     go (holds code edges words) e = clash (cc)
 
-module _ (s m g : List ℕ) (found : Read) (m₁ g₁ : List ℕ) (so : ReadSo s m g found m₁ g₁) (hm : length m ≡ 4096)
+module _ (s m g : List ℕ) (found : Read) (m₁ g₁ : List ℕ) (so : ReadSo 2 s m g found m₁ g₁) (hm : length m ≡ 4096)
     (hg : length g ≡ 4096) {c e d : ℕ} (h : found ≡ Read.Counts c e d) where
   pub read-report : (t : Technique) → reportOf t (take (c + d) m₁) c (take (e * 2) g₁) ≡ contentReport t (readOf 2 s)
   unfolding contentReport

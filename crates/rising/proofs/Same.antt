@@ -80,10 +80,10 @@ abbrev pub AllIn : List ℕ → List ℕ → Type 0
 AllIn edges edges′ =
     (k : ℕ) → k < edgeCount edges → (k′ : ℕ) × (k′ < edgeCount edges′) × (jumpOf edges′ k′ ≡ jumpOf edges k) × (targetOf edges′ k′ ≡ targetOf edges k)
 
-ranks-up : (edges : List ℕ) → Narrow edges → Rising edges → Increasing (rankOf edges) (edgeCount edges)
-ranks-up edges low r i k l h = rank-up edges i k (low i (omega arith)) (r i k l h)
+ranks-up : (edges : List ℕ) → Narrow edges → Rising edges → Increasing (rankOf 65536 edges) (edgeCount edges)
+ranks-up edges low r i k l h = rank-up edges 65536 i k (low i (omega arith)) (r i k l h)
 
-ranks-in : (edges edges′ : List ℕ) → AllIn edges edges′ → Among (rankOf edges) (edgeCount edges) (rankOf edges′) (edgeCount edges′)
+ranks-in : (edges edges′ : List ℕ) → AllIn edges edges′ → Among (rankOf 65536 edges) (edgeCount edges) (rankOf 65536 edges′) (edgeCount edges′)
 ranks-in edges edges′ all k l = let w = all k l in (w .0, w .1, omega (arith, w .2, w .3))
 
 pub same-edges : (edges edges′ : List ℕ) → length edges % 2 ≡ 0 → length edges′ % 2 ≡ 0 → Narrow edges → Narrow edges′ → Rising edges → Rising edges′
@@ -91,7 +91,7 @@ pub same-edges : (edges edges′ : List ℕ) → length edges % 2 ≡ 0 → leng
 same-edges edges edges′ even even′ low low′ r r′ there back =
     ext-getD 0 edges edges′ (omega (arith, as-many)) number
   where
-    runs : Runs (rankOf edges) (edgeCount edges) (rankOf edges′) (edgeCount edges′)
+    runs : Runs (rankOf 65536 edges) (edgeCount edges) (rankOf 65536 edges′) (edgeCount edges′)
     runs =
         record {
           up = ranks-up edges low r;

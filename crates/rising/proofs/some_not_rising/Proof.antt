@@ -1,5 +1,5 @@
 -- `some_not_rising` meets its contract: what was found is what there is among the edges passed, and the last one's numbers are kept.
-use Prim.Native.Nat.{ℕ, _+_, _-_, _≤_}
+use Prim.Native.Nat.{ℕ, _+_, _-_, _^_, _≤_}
 use mathlib.Core.Path.{_≡_, refl, sym, ap, ap₂, subst, _∙_}
 use mathlib.Core.Bool.{Bool, _||_}
 use native.Mathlib.Omega.{arith}
@@ -20,7 +20,7 @@ unfolding any
 any-more f k = rw add-one
 
 abbrev Inv-loop : tie.InvT-loop
-Inv-loop edges m found₀ before₀ k₀ found before k = (1 ≤ k) × (k ≤ m) × (found ≡ any (notRising edges) k) × IsRank before edges (k - 1)
+Inv-loop edges m found₀ before₀ k₀ found before k = (1 ≤ k) × (k ≤ m) × (found ≡ any (notRising edges) k) × IsRank (2 ^ 16) before edges (k - 1)
 
 abbrev μ-loop : tie.MeasureT-loop
 μ-loop edges m found₀ before₀ k₀ found before k = m - k
@@ -45,8 +45,8 @@ some-not-rising-spec =
     let same : loop .k ≡ loop .k + 1 - 1 = omega arith in (
       search needs,
       search needs,
-      ap₂ (λ (a b : Bool). a || b) (rank-falls edges (loop .k) (inv .0) (inv .3) here) (inv .2) ∙ any-more (notRising edges) (loop .k),
-      subst (λ (x : ℕ). IsRank (c .rank2 .result) edges x) same here,
+      ap₂ (λ (a b : Bool). a || b) (rank-falls edges (loop .k) here (inv .3) (inv .0)) (inv .2) ∙ any-more (notRising edges) (loop .k),
+      subst (λ (x : ℕ). IsRank (2 ^ 16) (c .rank2 .result) edges x) same here,
     ))
     (λ c.
     let loop = c .before .loop in

@@ -1,0 +1,4 @@
+pub mod Converting
+pub mod Converted
+pub mod Outside
+pub mod Theorems

@@ -1,0 +1,3 @@
+pub mod Converters
+pub mod Inside
+pub mod Theorems
