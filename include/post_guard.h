@@ -1,8 +1,9 @@
 /* Post guard for C and C++: the calls of libpost_guard.a.
  *
  * Build the library with `tools/library` and link target/staticlib/libpost_guard.a. It needs nothing but memcpy, memmove and memset.
- * Every call is proved to meet its contract, which is in crates/capi/src/lib.rt or, for figures and totals, in
- * crates/owner/src/lib.rt; this page says the same in plain words.
+ * Every call is proved to meet its contract, which is in crates/capi/src/lib.rt; for figures and totals in
+ * crates/owner/src/lib.rt, for the second edition and the converters in crates/wide/src/lib.rt. This page says the same in
+ * plain words.
  * docs/REFERENCE.md has the rest: instructions, steps, what the check asks, the parcel, and for each number what to do about it.
  *
  * Common to all calls:
@@ -12,14 +13,17 @@
  *   all a caller owes: every number is allowed everywhere.
  * - A call changes nothing but what its comment says, and nothing in a place past what it puts there. Where a call is
  *   refused, nothing is changed but what it reports: the count of pg_run (with PG_SHAPE), and the place of pg_check,
- *   pg_write_parcel_placed, pg_report, pg_report_parcel, pg_add_report and pg_add_parcel. The last two also count the refused
- *   parcel in totals[0].
+ *   pg_write_parcel_placed, pg_check_wide, pg_write_wide_parcel, pg_widen, pg_narrow, pg_report, pg_report_parcel,
+ *   pg_add_report and pg_add_parcel. The last two also count the refused parcel in totals[0].
  * - Calls keep nothing between them and may run at the same time on different places.
  *
  * A state is PG_STATE_WORDS words: r0 to r31, then the pc. Only those of the place are read or written.
  * Memory is n words of code and, directly after them, D words of data; memory_len is n + D.
- * Edges are pairs of numbers: a jump's address, then a target. Calls that check or write ask that they rise by jump address,
- * then by target, without repeats.
+ * Edges are pairs of numbers: a jump's address, then a target. Calls that check or write a program ask that they rise by jump
+ * address, then by target, without repeats.
+ * A parcel has two editions: an edge's numbers have 16 bits in the first and 32 bits in the second, and all else is alike.
+ * pg_check_wide, pg_read_wide_parcel and pg_write_wide_parcel are for the second; pg_widen and pg_narrow convert; every other
+ * call is for the first. The bytes do not say which edition they are.
  * Figures are PG_FIGURES numbers and totals PG_TOTALS numbers, as pg_report and pg_add_report say.
  * A technique is PG_PLAIN, or PG_MEMORY_GUARDS (any number but 0 means that one). */
 #ifndef POST_GUARD_H
@@ -39,8 +43,10 @@ extern "C" {
 #define PG_MAX_CODE 2048
 #define PG_MAX_DATA 2048
 #define PG_MAX_EDGES 2048
-/* the bytes of the longest parcel */
+/* the bytes of the longest parcel: three counts of 4 bytes, PG_MAX_CODE and PG_MAX_DATA words of 8, PG_MAX_EDGES edges of 4 */
 #define PG_MAX_PARCEL 40972
+/* the same in the second edition, where an edge has 8: 12 + 3 * 2048 * 8 */
+#define PG_MAX_WIDE_PARCEL 49164
 /* figures of a program, and totals over many: how many numbers, and where each stands (the words of a kind stand at its
  * opcode, those of illegal words at PG_FIGURE_ILLEGAL) */
 #define PG_FIGURES 14
@@ -67,10 +73,10 @@ extern "C" {
                            * of the register and w, and one of 2^64 or more is outside */
 #define PG_STOP_NEXT 4    /* plain only: the next pc is outside code; in an accepted program, at a jmp only */
 
-/* Refusals: why a call is turned away. 1 to 4 come from the calls that read a parcel (pg_read_parcel, pg_report_parcel and
- * pg_add_parcel), 7 to 15 from those that check a program (pg_check, pg_report, pg_add_report, pg_report_parcel and
- * pg_add_parcel), 18 from these, which test it after 8 and before 9, and from those that write a parcel (pg_write_parcel and
- * pg_write_parcel_placed). */
+/* Refusals: why a call is turned away. 1 to 4 come from the calls that read a parcel (pg_read_parcel, pg_read_wide_parcel,
+ * pg_widen, pg_narrow, pg_report_parcel and pg_add_parcel), 7 to 15 from those that check a program (pg_check, pg_check_wide,
+ * pg_report, pg_add_report, pg_report_parcel and pg_add_parcel), 18 from these, which test it after 8 and before 9, and from
+ * those that write a program (pg_write_parcel, pg_write_parcel_placed and pg_write_wide_parcel), 19 from pg_narrow alone. */
 #define PG_COUNT_MISSING 1       /* fewer than four bytes are left for a count */
 #define PG_COUNT_LIMIT 2         /* a count breaks its section's limits */
 #define PG_ITEMS_MISSING 3       /* the bytes for a section's items are not all there */
@@ -89,6 +95,7 @@ extern "C" {
 #define PG_NOT_DATA 16           /* a bus write names an address outside data */
 #define PG_NOT_REGISTER 17       /* a bus write names a register outside r3 to r31 */
 #define PG_EDGE_NOT_RISING 18    /* this edge is not above the one before it, by jump address, then by target */
+#define PG_EDGE_TOO_WIDE 19      /* this edge has an address above 65535: the first edition has no room for it */
 
 /* What else became of a parcel that was to be added to totals. pg_add_report and pg_add_parcel answer them. */
 #define PG_WITHOUT_JUMPS 256 /* accepted, but without jumps: passed over */
@@ -160,6 +167,44 @@ uint32_t pg_write_parcel(const uint64_t *memory, size_t memory_len, size_t n, co
 uint32_t pg_write_parcel_placed(const uint64_t *memory, size_t memory_len, size_t n, const uint16_t *edges,
                                 size_t edges_len, uint8_t *parcel, size_t parcel_len, uint64_t *count, size_t count_len,
                                 uint64_t *place, size_t place_len);
+
+/* Checks a program whose edge numbers have 32 bits, by the same rules over numbers: answers as pg_check does. An edge number
+ * above 65535 is outside code, and so it gives 7 or 8. */
+uint32_t pg_check_wide(uint8_t technique, const uint64_t *memory, size_t memory_len, size_t n, const uint32_t *edges,
+                       size_t edges_len, uint64_t *place, size_t place_len);
+
+/* Reads a parcel of the second edition: as pg_read_parcel, with edge numbers of 32 bits.
+ * Answers PG_OK, and puts the counts of code words, edges (pairs) and data words into counts[0] to counts[2]; or 1 to 4; or
+ * PG_PLACE_TOO_SHORT where memory, edges or counts (below 3) is too short, tested last. */
+uint32_t pg_read_wide_parcel(const uint8_t *parcel, size_t parcel_len, uint64_t *memory, size_t memory_len, uint32_t *edges,
+                             size_t edges_len, uint64_t *counts, size_t counts_len);
+
+/* Writes a program as a parcel of the second edition, with the place of a refusal: as pg_write_parcel_placed, with edge numbers
+ * of 32 bits.
+ * Answers PG_OK, and puts the number of its bytes into count[0]; PG_SHAPE; then PG_EDGE_NOT_RISING, with 1 and the first edge
+ * that is not above the one before it in the place; or PG_PLACE_TOO_SHORT where parcel, count (0) or place (below 2) is too
+ * short, tested last. Where place_len is 2 or more, every other answer puts 0 and 0 into the place. */
+uint32_t pg_write_wide_parcel(const uint64_t *memory, size_t memory_len, size_t n, const uint32_t *edges, size_t edges_len,
+                              uint8_t *parcel, size_t parcel_len, uint64_t *count, size_t count_len, uint64_t *place,
+                              size_t place_len);
+
+/* Writes a parcel of the first edition again as one of the second: the same code, data and edges. The edges stay as they are
+ * listed; whether they rise is not tested. Every parcel that can be read can be widened, and pg_narrow then gives its bytes
+ * back.
+ * Answers PG_OK, and puts the number of bytes in wide into count[0]; or 1 to 4, as pg_read_parcel answers; or
+ * PG_PLACE_TOO_SHORT where wide, count (0) or place (below 2) is too short, tested last. Where place_len is 2 or more, 0 and 0
+ * are put into the place: no answer of this call has one. */
+uint32_t pg_widen(const uint8_t *parcel, size_t parcel_len, uint8_t *wide, size_t wide_len, uint64_t *count, size_t count_len,
+                  uint64_t *place, size_t place_len);
+
+/* Writes a parcel of the second edition again as one of the first: the same code, data and edges, as they are listed; whether
+ * they rise is not tested. pg_widen then gives its bytes back.
+ * Answers PG_OK, and puts the number of bytes in parcel into count[0]; or 1 to 4, as pg_read_wide_parcel answers; then
+ * PG_EDGE_TOO_WIDE, with 1 and the first edge that has a number above 65535 in the place; or PG_PLACE_TOO_SHORT where parcel,
+ * count (0) or place (below 2) is too short, tested last. Where place_len is 2 or more, every other answer puts 0 and 0 into
+ * the place. */
+uint32_t pg_narrow(const uint8_t *wide, size_t wide_len, uint8_t *parcel, size_t parcel_len, uint64_t *count, size_t count_len,
+                   uint64_t *place, size_t place_len);
 
 /* Checks a program and, where it is accepted, puts its figures: how tightly it is held.
  * Answers PG_OK where it is accepted; PG_PLACE_TOO_SHORT where figures_len is below PG_FIGURES or place_len below 2 (tested

@@ -1,7 +1,8 @@
 /* How deep each call goes into the stack, in bytes: for whoever sizes the stack of a controller or a gateway's thread.
  *
  *     cc -std=gnu11 -O2 -Iinclude tests/stack.c target/staticlib/libpost_guard.a -o stack
- *     ./stack PARCEL..     each call on each parcel, with both techniques; the deepest is printed
+ *     ./stack PARCEL..     each call on each parcel, with both techniques; the deepest is printed. Calls on the second edition
+ *                          get the parcel widened
  *
  * A call is made on a stack of its own, which was filled with one byte before; what it changed last, counted from where the call
  * began, is how deep it went. Needs the contexts of POSIX.1-2001 (glibc). Fails where a call goes deeper than docs/REFERENCE.md says. */
@@ -20,10 +21,11 @@ static ucontext_t here, there;
 static uintptr_t began;
 
 static uint8_t technique;
-static uint8_t parcel[PG_MAX_PARCEL + 1], written[PG_MAX_PARCEL];
-static size_t parcel_len, len, n, edge_numbers;
+static uint8_t parcel[PG_MAX_PARCEL + 1], wide[PG_MAX_WIDE_PARCEL], written[PG_MAX_WIDE_PARCEL];
+static size_t parcel_len, wide_len, len, n, edge_numbers;
 static uint64_t memory[PG_MAX_CODE + PG_MAX_DATA];
 static uint16_t edges[2 * PG_MAX_EDGES];
+static uint32_t wide_edges[2 * PG_MAX_EDGES];
 static uint64_t state[PG_STATE_WORDS], figures[PG_FIGURES], totals[PG_TOTALS], place[2], counts[3];
 static uint32_t fields[5];
 
@@ -44,6 +46,15 @@ static void write_parcel(void) {
 static void write_placed(void) {
     pg_write_parcel_placed(memory, len, n, edges, edge_numbers, written, PG_MAX_PARCEL, counts, 1, place, 2);
 }
+static void check_wide(void) { pg_check_wide(technique, memory, len, n, wide_edges, edge_numbers, place, 2); }
+static void read_wide(void) {
+    pg_read_wide_parcel(wide, wide_len, memory, PG_MAX_CODE + PG_MAX_DATA, wide_edges, 2 * PG_MAX_EDGES, counts, 3);
+}
+static void write_wide(void) {
+    pg_write_wide_parcel(memory, len, n, wide_edges, edge_numbers, written, PG_MAX_WIDE_PARCEL, counts, 1, place, 2);
+}
+static void widen(void) { pg_widen(parcel, parcel_len, written, PG_MAX_WIDE_PARCEL, counts, 1, place, 2); }
+static void narrow(void) { pg_narrow(wide, wide_len, written, PG_MAX_PARCEL, counts, 1, place, 2); }
 static void report(void) {
     pg_report(technique, memory, len, n, edges, edge_numbers, figures, PG_FIGURES, place, 2);
 }
@@ -60,6 +71,7 @@ static const struct {
     size_t most;
 } calls[] = {
     {"pg_check", check, 9 * 1024},
+    {"pg_check_wide", check_wide, 18 * 1024},
     {"pg_report", report, 9 * 1024},
     {"pg_add_report", add_report, 9 * 1024},
     {"pg_report_parcel", report_parcel, 50 * 1024},
@@ -67,6 +79,10 @@ static const struct {
     {"pg_read_parcel", read_parcel, 1024},
     {"pg_write_parcel", write_parcel, 1024},
     {"pg_write_parcel_placed", write_placed, 1024},
+    {"pg_read_wide_parcel", read_wide, 1024},
+    {"pg_write_wide_parcel", write_wide, 1024},
+    {"pg_widen", widen, 1024},
+    {"pg_narrow", narrow, 1024},
     {"pg_decode", decode, 1024},
     {"pg_encode", encode, 1024},
     {"pg_step", step, 1024},
@@ -99,6 +115,12 @@ static size_t depth_of(void (*call)(void)) {
     return (size_t)(began - (uintptr_t)&room[deepest]);
 }
 
+static void stop(const char *name, const char *why) {
+    fprintf(stderr, "%s: %s\n", name, why);
+    exit(1);
+}
+
+/* the parcel, and the same in the second edition; what each holds */
 static void read_file(const char *name) {
     FILE *file = fopen(name, "rb");
     if (file == NULL) {
@@ -107,10 +129,11 @@ static void read_file(const char *name) {
     }
     parcel_len = fread(parcel, 1, sizeof parcel, file);
     fclose(file);
-    if (pg_read_parcel(parcel, parcel_len, memory, PG_MAX_CODE + PG_MAX_DATA, edges, 2 * PG_MAX_EDGES, counts, 3) != PG_OK) {
-        fprintf(stderr, "%s: no parcel\n", name);
-        exit(1);
-    }
+    if (pg_widen(parcel, parcel_len, wide, PG_MAX_WIDE_PARCEL, counts, 1, place, 2) != PG_OK) stop(name, "no parcel");
+    wide_len = counts[0];
+    if (pg_read_wide_parcel(wide, wide_len, memory, PG_MAX_CODE + PG_MAX_DATA, wide_edges, 2 * PG_MAX_EDGES, counts, 3) != PG_OK ||
+        pg_read_parcel(parcel, parcel_len, memory, PG_MAX_CODE + PG_MAX_DATA, edges, 2 * PG_MAX_EDGES, counts, 3) != PG_OK)
+        stop(name, "it is widened, but not read");
     n = counts[0];
     edge_numbers = 2 * counts[1];
     len = n + counts[2];

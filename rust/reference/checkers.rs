@@ -1,6 +1,26 @@
 //! Three checkers: the papers' words read naively, for the tests; and, for the benchmarks, one with sets and one with flat arrays.
+//! The first and the last take edge numbers of either edition.
 use super::{decode, shaped, Op, Technique};
 use std::collections::{BTreeSet, HashMap, HashSet};
+
+/// A number of an edge: 16 bits, or 32 in the second edition.
+pub trait EdgeNumber: Copy + Ord {
+    fn address(self) -> usize;
+}
+
+impl EdgeNumber for u16 {
+    #[inline(always)]
+    fn address(self) -> usize {
+        self as usize
+    }
+}
+
+impl EdgeNumber for u32 {
+    #[inline(always)]
+    fn address(self) -> usize {
+        self as usize
+    }
+}
 
 /// A verdict: its number, the kind of its place (0 none, 1 an edge, 2 an address), and the place.
 pub type Answer = (u32, u64, u64);
@@ -58,12 +78,12 @@ fn store_guarded(ops: &[Op], len: usize, a: usize) -> bool {
 }
 
 /// Every rule in its words, with sets that are compared pair by pair.
-pub fn check(technique: Technique, memory: &[u64], n: usize, edges: &[u16]) -> Answer {
+pub fn check<E: EdgeNumber>(technique: Technique, memory: &[u64], n: usize, edges: &[E]) -> Answer {
     if !shaped(memory.len(), n) || edges.len() % 2 != 0 || edges.len() > 4096 {
         return (6, 0, 0);
     }
     let ops: Vec<Op> = memory[..n].iter().map(|&word| decode(word)).collect();
-    let pairs: Vec<(usize, usize)> = edges.chunks(2).map(|e| (e[0] as usize, e[1] as usize)).collect();
+    let pairs: Vec<(usize, usize)> = edges.chunks(2).map(|e| (e[0].address(), e[1].address())).collect();
     for (k, &(jump, _)) in pairs.iter().enumerate() {
         if jump >= n || !is_jump(ops[jump]) {
             return at_edge(7, k);
@@ -232,25 +252,25 @@ pub fn check_with_sets(technique: Technique, memory: &[u64], n: usize, edges: &[
 
 /// The same with flat arrays of n numbers, in time that follows words plus edges.
 #[inline(never)]
-pub fn check_flat(technique: Technique, memory: &[u64], n: usize, edges: &[u16]) -> Answer {
+pub fn check_flat<E: EdgeNumber>(technique: Technique, memory: &[u64], n: usize, edges: &[E]) -> Answer {
     if !shaped(memory.len(), n) || edges.len() % 2 != 0 || edges.len() > 4096 {
         return (6, 0, 0);
     }
     const NONE: u16 = u16::MAX;
     let ops: Vec<Op> = memory[..n].iter().map(|&word| decode(word)).collect();
     for (k, e) in edges.chunks_exact(2).enumerate() {
-        let jump = e[0] as usize;
+        let jump = e[0].address();
         if jump >= n || !is_jump(ops[jump]) {
             return at_edge(7, k);
         }
     }
     let mut lowest = vec![NONE; n];
     for (k, e) in edges.chunks_exact(2).enumerate() {
-        if e[1] as usize >= n {
+        if e[1].address() >= n {
             return at_edge(8, k);
         }
-        let low = &mut lowest[e[0] as usize];
-        *low = (*low).min(e[1]);
+        let low = &mut lowest[e[0].address()];
+        *low = (*low).min(e[1].address() as u16);
     }
     if let Some(k) = edges.windows(4).step_by(2).position(|e| (e[0], e[1]) >= (e[2], e[3])) {
         return at_edge(18, k + 1);
@@ -265,9 +285,9 @@ pub fn check_flat(technique: Technique, memory: &[u64], n: usize, edges: &[u16])
     let mut head = vec![NONE; n];
     let mut link = vec![NONE; edges.len() / 2];
     for (k, e) in edges.chunks_exact(2).enumerate() {
-        owner[e[1] as usize] = lowest[e[0] as usize];
-        link[k] = head[e[0] as usize];
-        head[e[0] as usize] = k as u16;
+        owner[e[1].address()] = lowest[e[0].address()];
+        link[k] = head[e[0].address()];
+        head[e[0].address()] = k as u16;
     }
     let mut size = vec![0u16; n];
     for a in 0..n {
@@ -283,7 +303,7 @@ pub fn check_flat(technique: Technique, memory: &[u64], n: usize, edges: &[u16])
         let mut count = 0;
         let mut good = true;
         while k != NONE {
-            let target = edges[k as usize * 2 + 1] as usize;
+            let target = edges[k as usize * 2 + 1].address();
             if seen[target] != a as u16 {
                 seen[target] = a as u16;
                 count += 1;
@@ -295,7 +315,7 @@ pub fn check_flat(technique: Technique, memory: &[u64], n: usize, edges: &[u16])
             uneven = true;
             let mut k = head[a];
             while k != NONE {
-                tainted[edges[k as usize * 2 + 1] as usize] = true;
+                tainted[edges[k as usize * 2 + 1].address()] = true;
                 k = link[k as usize];
             }
         }
@@ -304,7 +324,7 @@ pub fn check_flat(technique: Technique, memory: &[u64], n: usize, edges: &[u16])
         for a in 0..n {
             let mut k = head[a];
             while k != NONE {
-                if tainted[edges[k as usize * 2 + 1] as usize] {
+                if tainted[edges[k as usize * 2 + 1].address()] {
                     return at_address(10, a);
                 }
                 k = link[k as usize];

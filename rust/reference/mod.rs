@@ -4,6 +4,7 @@
 #![allow(dead_code)]
 
 pub mod checkers;
+pub mod editions;
 pub mod figures;
 pub mod totals;
 

@@ -70,6 +70,59 @@ mod library {
             place: *mut u64,
             place_len: usize,
         ) -> u32;
+        pub fn pg_check_wide(
+            technique: u8,
+            memory: *const u64,
+            memory_len: usize,
+            n: usize,
+            edges: *const u32,
+            edges_len: usize,
+            place: *mut u64,
+            place_len: usize,
+        ) -> u32;
+        pub fn pg_read_wide_parcel(
+            parcel: *const u8,
+            parcel_len: usize,
+            memory: *mut u64,
+            memory_len: usize,
+            edges: *mut u32,
+            edges_len: usize,
+            counts: *mut u64,
+            counts_len: usize,
+        ) -> u32;
+        pub fn pg_write_wide_parcel(
+            memory: *const u64,
+            memory_len: usize,
+            n: usize,
+            edges: *const u32,
+            edges_len: usize,
+            parcel: *mut u8,
+            parcel_len: usize,
+            count: *mut u64,
+            count_len: usize,
+            place: *mut u64,
+            place_len: usize,
+        ) -> u32;
+        pub fn pg_widen(
+            parcel: *const u8,
+            parcel_len: usize,
+            wide: *mut u8,
+            wide_len: usize,
+            count: *mut u64,
+            count_len: usize,
+            place: *mut u64,
+            place_len: usize,
+        ) -> u32;
+        pub fn pg_narrow(
+            wide: *const u8,
+            wide_len: usize,
+            parcel: *mut u8,
+            parcel_len: usize,
+            count: *mut u64,
+            count_len: usize,
+            place: *mut u64,
+            place_len: usize,
+        ) -> u32;
         pub fn pg_report(
             technique: u8,
             memory: *const u64,
@@ -245,6 +298,96 @@ pub mod slices {
     }
 
     #[inline]
+    pub fn check_wide(technique: u8, memory: &[u64], n: usize, edges: &[u32], place: &mut [u64]) -> u32 {
+        unsafe {
+            library::pg_check_wide(
+                technique,
+                memory.as_ptr(),
+                memory.len(),
+                n,
+                edges.as_ptr(),
+                edges.len(),
+                place.as_mut_ptr(),
+                place.len(),
+            )
+        }
+    }
+
+    #[inline]
+    pub fn read_wide_parcel(parcel: &[u8], memory: &mut [u64], edges: &mut [u32], counts: &mut [u64]) -> u32 {
+        unsafe {
+            library::pg_read_wide_parcel(
+                parcel.as_ptr(),
+                parcel.len(),
+                memory.as_mut_ptr(),
+                memory.len(),
+                edges.as_mut_ptr(),
+                edges.len(),
+                counts.as_mut_ptr(),
+                counts.len(),
+            )
+        }
+    }
+
+    #[inline]
+    pub fn write_wide_parcel(
+        memory: &[u64],
+        n: usize,
+        edges: &[u32],
+        parcel: &mut [u8],
+        count: &mut [u64],
+        place: &mut [u64],
+    ) -> u32 {
+        unsafe {
+            library::pg_write_wide_parcel(
+                memory.as_ptr(),
+                memory.len(),
+                n,
+                edges.as_ptr(),
+                edges.len(),
+                parcel.as_mut_ptr(),
+                parcel.len(),
+                count.as_mut_ptr(),
+                count.len(),
+                place.as_mut_ptr(),
+                place.len(),
+            )
+        }
+    }
+
+    #[inline]
+    pub fn widen(parcel: &[u8], wide: &mut [u8], count: &mut [u64], place: &mut [u64]) -> u32 {
+        unsafe {
+            library::pg_widen(
+                parcel.as_ptr(),
+                parcel.len(),
+                wide.as_mut_ptr(),
+                wide.len(),
+                count.as_mut_ptr(),
+                count.len(),
+                place.as_mut_ptr(),
+                place.len(),
+            )
+        }
+    }
+
+    #[inline]
+    pub fn narrow(wide: &[u8], parcel: &mut [u8], count: &mut [u64], place: &mut [u64]) -> u32 {
+        unsafe {
+            library::pg_narrow(
+                wide.as_ptr(),
+                wide.len(),
+                parcel.as_mut_ptr(),
+                parcel.len(),
+                count.as_mut_ptr(),
+                count.len(),
+                place.as_mut_ptr(),
+                place.len(),
+            )
+        }
+    }
+
+    #[inline]
     pub fn report(
         technique: u8,
         memory: &[u64],
@@ -326,8 +469,8 @@ pub mod slices {
 }
 
 pub use slices::{
-    add_parcel, add_report, check, decode, encode, read_parcel, report, report_parcel, write_data, write_parcel,
-    write_parcel_placed,
+    add_parcel, add_report, check, check_wide, decode, encode, narrow, read_parcel, read_wide_parcel, report, report_parcel, widen,
+    write_data, write_parcel, write_parcel_placed, write_wide_parcel,
 };
 
 /// A state as 33 words. `State` is `repr(C)`: 32 registers and then the pc, with nothing between.

@@ -33,14 +33,22 @@
 //! A site owner's question: how tightly is a program held? [`report`] and [`report_parcel`] give its [`Figures`], and [`Totals`]
 //! add up the freedoms of many parcels.
 //!
+//! Bigger controllers share a second edition of the parcel, whose edges have addresses of 32 bits: [`WideProgram`] reads, writes
+//! and checks it, and [`widened`] and [`narrowed`] convert. Everything else is for the first edition, with 16 bits.
+//!
 //! The functions are thin, and `#[inline]`: a call costs what the library's call costs.
 //!
 //! No function here panics, and none has a precondition: any numbers may be passed. The proved contract of each call is in
-//! `crates/capi/src/lib.rt` or, for figures and totals, in `crates/owner/src/lib.rt`; the only unsafe code, in `calls.rs`, hands
-//! slices over to them. Instructions, steps, what a check asks, the parcel and every number are explained in docs/REFERENCE.md
+//! `crates/capi/src/lib.rt`; for figures and totals in `crates/owner/src/lib.rt`, for the second edition and the converters in
+//! `crates/wide/src/lib.rt`. The only unsafe code, in `calls.rs`, hands slices over to them. Instructions, steps, what a check asks, the parcel and every number are explained in docs/REFERENCE.md
 //! of the repository.
 
 mod calls;
+mod editions;
+
+pub use editions::{
+    check_wide, narrow, narrowed, read_wide_parcel, widen, widened, write_wide_parcel, WideProgram, MAX_WIDE_PARCEL,
+};
 
 use std::fmt;
 
@@ -150,17 +158,18 @@ pub enum Refusal {
     NotData = 16,
     NotRegister = 17,
     EdgeNotRising = 18,
+    EdgeTooWide = 19,
 }
 
 impl Refusal {
-    /// The number of docs/REFERENCE.md, 1 to 18.
+    /// The number of docs/REFERENCE.md, 1 to 19.
     #[inline]
     pub fn number(self) -> u32 {
         self as u32
     }
 
     /// Every refusal, in the sequence of the numbers.
-    pub const ALL: [Refusal; 18] = [
+    pub const ALL: [Refusal; 19] = [
         Refusal::CountMissing,
         Refusal::CountLimit,
         Refusal::ItemsMissing,
@@ -179,9 +188,10 @@ impl Refusal {
         Refusal::NotData,
         Refusal::NotRegister,
         Refusal::EdgeNotRising,
+        Refusal::EdgeTooWide,
     ];
 
-    /// The refusal of a number that the library answers: 1 to 18.
+    /// The refusal of a number that the library answers: 1 to 19.
     #[inline]
     fn of(number: u32) -> Refusal {
         Refusal::ALL[(number as usize).clamp(1, Refusal::ALL.len()) - 1]
@@ -209,6 +219,7 @@ impl fmt::Display for Refusal {
             Refusal::NotData => "a bus write names an address outside data",
             Refusal::NotRegister => "a bus write names a register outside r3 to r31",
             Refusal::EdgeNotRising => "an edge is not above the one before it",
+            Refusal::EdgeTooWide => "an edge's address is above 65,535",
         };
         write!(f, "{} ({})", words, self.number())
     }
@@ -371,6 +382,20 @@ pub enum Verdict {
     Refused(Refusal, Option<Place>),
 }
 
+impl Verdict {
+    /// The verdict of a number that the library answers, with what it puts for the place.
+    #[inline]
+    fn of(number: u32, place: [u64; 2]) -> Verdict {
+        match number {
+            0 => Verdict::Accepted,
+            number => {
+                let Fault { refusal, place } = Fault::of(number, place);
+                Verdict::Refused(refusal, place)
+            }
+        }
+    }
+}
+
 impl fmt::Display for Verdict {
     fn fmt(&self, f: &mut fmt::Formatter) -> fmt::Result {
         match *self {
@@ -380,7 +405,8 @@ impl fmt::Display for Verdict {
     }
 }
 
-/// Why a program has no figures, or no parcel: the first rule that is broken, and its first faulty place.
+/// Why a program has no figures or no parcel, or a parcel none in the other edition: the first rule that is broken, and its first
+/// faulty place.
 #[derive(Clone, Copy, PartialEq, Eq, Hash, Debug)]
 pub struct Fault {
     pub refusal: Refusal,
@@ -414,6 +440,14 @@ impl fmt::Display for Fault {
 
 impl std::error::Error for Fault {}
 
+/// A refusal without a place.
+impl From<Refusal> for Fault {
+    #[inline]
+    fn from(refusal: Refusal) -> Fault {
+        Fault { refusal, place: None }
+    }
+}
+
 /// Checks n words of code, with the data size that the memory's length gives, against the claimed edges: pairs of a jump's
 /// address and a target, which must rise by jump address, then by target, without repeats ([`Program::sort_edges`]).
 ///
@@ -428,14 +462,12 @@ impl std::error::Error for Fault {}
 #[inline]
 pub fn check(technique: Technique, memory: &[u64], n: usize, edges: &[u16]) -> Verdict {
     let mut place = [0u64; 2];
-    match calls::check(technique.number(), memory, n, edges, &mut place) {
-        0 => Verdict::Accepted,
-        number => {
-            let Fault { refusal, place } = Fault::of(number, place);
-            Verdict::Refused(refusal, place)
-        }
-    }
+    let number = calls::check(technique.number(), memory, n, edges, &mut place);
+    Verdict::of(number, place)
 }
+
+/// The bytes of the longest parcel: 2,048 code words and 2,048 data words of 8 bytes, 2,048 edges of 4, and three counts of 4.
+pub const MAX_PARCEL: usize = 40_972;
 
 /// How much a parcel holds.
 #[derive(Clone, Copy, PartialEq, Eq, Hash, Debug)]
@@ -445,14 +477,22 @@ pub struct Counts {
     pub data_words: usize,
 }
 
+impl Counts {
+    /// The counts that the library puts.
+    #[inline]
+    fn of(counts: [u64; 3]) -> Counts {
+        let [code_words, edges, data_words] = counts.map(|count| count as usize);
+        Counts { code_words, edges, data_words }
+    }
+}
+
 /// Reads a parcel: code, and data directly after it, into the memory, and edge numbers into the edges. Nothing past them is
 /// touched, and a refusal changes nothing.
 #[inline]
 pub fn read_parcel(parcel: &[u8], memory: &mut [u64], edges: &mut [u16]) -> Result<Counts, Refusal> {
     let mut counts = [0u64; 3];
     done(calls::read_parcel(parcel, memory, edges, &mut counts))?;
-    let [code_words, edges, data_words] = counts.map(|count| count as usize);
-    Ok(Counts { code_words, edges, data_words })
+    Ok(Counts::of(counts))
 }
 
 /// Writes a program as a parcel, and gives the number of its bytes. The edges must rise by jump address, then by target, without
@@ -479,10 +519,8 @@ pub fn write_parcel(memory: &[u64], n: usize, edges: &[u16], parcel: &mut [u8]) 
 #[inline]
 pub fn write_parcel_placed(memory: &[u64], n: usize, edges: &[u16], parcel: &mut [u8]) -> Result<usize, Fault> {
     let (mut count, mut place) = ([0u64; 1], [0u64; 2]);
-    match calls::write_parcel_placed(memory, n, edges, parcel, &mut count, &mut place) {
-        0 => Ok(count[0] as usize),
-        number => Err(Fault::of(number, place)),
-    }
+    let number = calls::write_parcel_placed(memory, n, edges, parcel, &mut count, &mut place);
+    size_put(number, count, place)
 }
 
 /// A program with its claim: code with the data after it, and the edge numbers.
@@ -509,18 +547,12 @@ impl Program {
 
     /// The parcel of the program, if its edges rise.
     pub fn to_parcel(&self) -> Result<Vec<u8>, Refusal> {
-        let mut parcel = vec![0; 40_972];
-        let size = write_parcel(&self.memory, self.code_words, &self.edges, &mut parcel)?;
-        parcel.truncate(size);
-        Ok(parcel)
+        bytes_put(MAX_PARCEL, |parcel| write_parcel(&self.memory, self.code_words, &self.edges, parcel))
     }
 
     /// The same, and a refusal says at which edge.
     pub fn to_parcel_placed(&self) -> Result<Vec<u8>, Fault> {
-        let mut parcel = vec![0; 40_972];
-        let size = write_parcel_placed(&self.memory, self.code_words, &self.edges, &mut parcel)?;
-        parcel.truncate(size);
-        Ok(parcel)
+        bytes_put(MAX_PARCEL, |parcel| write_parcel_placed(&self.memory, self.code_words, &self.edges, parcel))
     }
 
     /// Puts the edges into the sequence that check and writer ask for, and takes out repeats: the graph stays the same. A number
@@ -537,13 +569,7 @@ impl Program {
     /// assert_eq!(program.to_parcel_placed().unwrap().len(), 12 + 8 + 3 * 4);
     /// ```
     pub fn sort_edges(&mut self) {
-        let pairs = self.edges.chunks_exact(2);
-        let odd = pairs.remainder().to_vec();
-        let mut edges: Vec<[u16; 2]> = pairs.map(|edge| [edge[0], edge[1]]).collect();
-        edges.sort_unstable();
-        edges.dedup();
-        self.edges = edges.concat();
-        self.edges.extend(odd);
+        self.edges = rising(&self.edges);
     }
 
     /// The verdict on the program.
@@ -851,6 +877,35 @@ fn done(number: u32) -> Result<(), Refusal> {
         0 => Ok(()),
         number => Err(Refusal::of(number)),
     }
+}
+
+/// How many bytes a call put that answers this number, or its fault.
+#[inline]
+fn size_put(number: u32, count: [u64; 1], place: [u64; 2]) -> Result<usize, Fault> {
+    match number {
+        0 => Ok(count[0] as usize),
+        number => Err(Fault::of(number, place)),
+    }
+}
+
+/// The bytes that `put` puts, which are at most so many.
+fn bytes_put<E>(most: usize, put: impl FnOnce(&mut [u8]) -> Result<usize, E>) -> Result<Vec<u8>, E> {
+    let mut bytes = vec![0; most];
+    let size = put(&mut bytes)?;
+    bytes.truncate(size);
+    Ok(bytes)
+}
+
+/// The pairs of these numbers in rising sequence, without repeats; a number at the end that is no pair stays there.
+fn rising<N: Copy + Ord>(numbers: &[N]) -> Vec<N> {
+    let pairs = numbers.chunks_exact(2);
+    let odd = pairs.remainder();
+    let mut edges: Vec<[N; 2]> = pairs.map(|edge| [edge[0], edge[1]]).collect();
+    edges.sort_unstable();
+    edges.dedup();
+    let mut numbers: Vec<N> = edges.concat();
+    numbers.extend(odd);
+    numbers
 }
 
 /// The calls as the static library has them, for tests: on numbers and slices, places of any length.

@@ -121,7 +121,7 @@ fn branch_targets_at_the_ends() {
                         memory[n - 1] = encode(Op::Illegal);
                         let p = Program { memory, n, edges: Vec::new() };
                         let expected = if w < n { (0, 0, 0) } else { (15, 2, n as u64 - 2) };
-                        assert_eq!(checkers::check(technique, &p.memory, n, &[]), expected, "{branch:?} of {n} words");
+                        assert_eq!(checkers::check(technique, &p.memory, n, &p.edges), expected, "{branch:?} of {n} words");
                         compare(technique, number_of(technique), &p);
                     }
                 }

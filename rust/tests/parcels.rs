@@ -3,7 +3,7 @@
 mod reference;
 mod common;
 
-use common::{padded, rising_edges, sort_edges, Random};
+use common::{damage_bytes, damage_sequence, padded, rising_edges, Random};
 use post_guard::raw;
 
 fn compare_read(r: &mut Random, parcel: &[u8], memory_len: usize, edges_len: usize, counts_len: usize) -> u32 {
@@ -93,20 +93,7 @@ fn parcels_read_as_the_reference_says() {
     for _ in 0..110_000 {
         let (code, pairs, data) = (1 + r.below(20), r.below(12), r.below(12));
         let mut parcel = parcel_of(&mut r, code, pairs, data);
-        match r.below(7) {
-            0 => parcel.truncate(r.below(parcel.len() + 1)),
-            1 => parcel.extend((0..1 + r.below(9)).map(|_| 0)),
-            2 => {
-                let section = r.pick(&[0, 4 + code * 8, 8 + code * 8 + pairs * 4]);
-                let count = r.pick(&[0, 1, 5, 2048, 2049, u32::MAX, 1 << 29, 1 << 31]);
-                parcel[section..section + 4].copy_from_slice(&count.to_le_bytes());
-            }
-            3 => {
-                let at = r.below(parcel.len());
-                parcel[at] ^= 1 << r.below(8);
-            }
-            _ => {}
-        }
+        damage_bytes(&mut r, &mut parcel, [0, 4 + code * 8, 8 + code * 8 + pairs * 4]);
         let memory_len = if r.chance(6) { r.below(code + data + 1) } else { code + data + r.below(3) };
         let edges_len = if r.chance(6) { r.below(pairs * 2 + 1) } else { pairs * 2 + r.below(3) };
         let counts_len = if r.chance(8) { r.below(4) } else { 3 + r.below(3) };
@@ -168,30 +155,6 @@ fn parcels_are_written_as_the_reference_says() {
     }
     println!("how often each number was given: {seen:?}");
     assert!([0, 5, 6, 18].iter().all(|&number| seen[number] > 1000), "{seen:?}");
-}
-
-/// Three times in four the edges stay as they are; else two change places, one is listed again, one number changes, or one goes.
-fn damage_sequence(r: &mut Random, edges: &mut Vec<u16>) {
-    if edges.is_empty() || !r.chance(4) {
-        return;
-    }
-    let pairs = edges.len() / 2;
-    let (one, two) = (r.below(pairs) * 2, r.below(pairs) * 2);
-    match r.below(5) {
-        0 => {
-            edges.swap(one, two);
-            edges.swap(one + 1, two + 1);
-        }
-        1 => edges.extend_from_within(one..one + 2),
-        2 => {
-            edges.extend_from_within(one..one + 2);
-            sort_edges(edges);
-        }
-        3 => edges[one + r.below(2)] = r.below(4) as u16,
-        _ => {
-            edges.pop();
-        }
-    }
 }
 
 #[test]

@@ -1,8 +1,8 @@
-//! docs/REFERENCE.md against what it tells of: the programs shown are the examples and are accepted as the page says, the tables of
-//! numbers have every number under the header's name, every call of the header has its row, what the example of figures prints is
-//! what it prints, and the definitions that the page names are there. Every example gets the verdicts that were worked out by
-//! hand.
-use post_guard::{Place, Program, Refusal, Refusal::*, Technique, Verdict};
+//! docs/REFERENCE.md against what it tells of: the programs and bytes shown are the examples and are accepted as the page says, the
+//! tables of numbers have every number under the header's name, every call of the header has its row, the longest parcels are
+//! those of the header and of the crate, what the example of figures prints is what it prints, and the definitions that the page
+//! names are there. Every example, of either edition, gets the verdicts that were worked out by hand.
+use post_guard::{narrowed, widened, Fault, Place, Program, Refusal, Refusal::*, Technique, Verdict, WideProgram};
 use std::fs;
 use std::path::{Path, PathBuf};
 
@@ -69,21 +69,34 @@ fn programs_shown_are_the_examples_and_accepted() {
     assert!(techniques.contains(&Technique::Plain) && techniques.contains(&Technique::MemoryGuards), "{techniques:?}");
 }
 
+/// Bytes are shown to the end of the parcel: of the first edition from its first byte, of the second from any.
 #[test]
 fn bytes_shown_are_the_parcels() {
-    let mut count = 0;
-    for Shown { file, block, .. } in shown().into_iter().filter(|shown| shown.file.ends_with(".parcel")) {
-        let mut bytes = Vec::new();
+    let (mut first, mut second) = (0, 0);
+    for Shown { file, block, .. } in shown() {
+        let bytes = bytes_of(&file);
+        let mut at = match file.rsplit_once('.') {
+            Some((_, "parcel")) => {
+                first += 1;
+                0
+            }
+            Some((_, "wide")) => {
+                second += 1;
+                block.split_whitespace().next().unwrap().parse().unwrap()
+            }
+            _ => continue,
+        };
         for line in block.lines() {
             let mut words = line.split_whitespace();
-            assert_eq!(words.next(), Some(bytes.len().to_string().as_str()), "{file}: {line}");
+            assert_eq!(words.next(), Some(at.to_string().as_str()), "{file}: {line}");
             let hex = words.take_while(|word| word.len() == 2).map_while(|word| u8::from_str_radix(word, 16).ok());
-            bytes.extend(hex);
+            let shown: Vec<u8> = hex.collect();
+            assert_eq!(bytes.get(at..at + shown.len()), Some(&shown[..]), "{file}: {line}");
+            at += shown.len();
         }
-        assert_eq!(bytes, bytes_of(&file), "{file}");
-        count += 1;
+        assert_eq!(at, bytes.len(), "{file}");
     }
-    assert!(count > 0, "the page shows no parcel");
+    assert!(first > 0 && second > 0, "the page shows no parcel of one edition");
 }
 
 #[test]
@@ -124,15 +137,60 @@ fn examples_get_the_verdicts_worked_out_by_hand() {
         assert_eq!(program.check(Technique::Plain), plain, "{name}, plain");
         assert_eq!(program.check(Technique::MemoryGuards), guarded, "{name}, with memory guards");
     }
-    for ending in ["parcel", "txt"] {
-        let mut names: Vec<String> = fs::read_dir(repository().join("examples"))
-            .unwrap()
-            .map(|entry| entry.unwrap().path())
-            .filter(|path| path.extension().is_some_and(|e| e == ending))
-            .map(|path| path.file_stem().unwrap().to_str().unwrap().to_string())
-            .collect();
-        names.sort();
-        assert_eq!(names, expected.map(|(name, _, _)| name), "the examples with the ending {ending}");
+    for ending in [".parcel", ".txt"] {
+        assert_eq!(examples(ending), expected.map(|(name, _, _)| name), "the examples with the ending {ending}");
+    }
+}
+
+/// the names of the examples with this ending, without it; `.txt` means the texts of the first edition
+fn examples(ending: &str) -> Vec<String> {
+    let files = fs::read_dir(repository().join("examples")).unwrap();
+    let mut names: Vec<String> = files
+        .filter_map(|file| Some(file.unwrap().file_name().to_str()?.strip_suffix(ending)?.to_string()))
+        .filter(|name| !name.ends_with(".wide"))
+        .collect();
+    names.sort();
+    names
+}
+
+#[test]
+fn wide_examples_get_the_verdicts_worked_out_by_hand() {
+    let edge = |refusal, place| Fault { refusal, place: Some(Place::Edge(place)) };
+    let refused = |fault: Fault| Verdict::Refused(fault.refusal, fault.place);
+    // the name, the verdicts plain and with memory guards, and what becomes of it when it is narrowed
+    let expected = [
+        // the same words and edges as day-and-night.txt has
+        (
+            "day-and-night",
+            Verdict::Accepted,
+            Verdict::Refused(StoreUnguarded, Some(Place::Address(25))),
+            Ok(bytes_of("examples/day-and-night.parcel")),
+        ),
+        // the target 65,543 is above n, which is 9, and above 65,535
+        ("far-edge", refused(edge(TargetOutsideCode, 0)), refused(edge(TargetOutsideCode, 0)), Err(edge(EdgeTooWide, 0))),
+    ];
+    assert_eq!(examples(".wide"), expected.clone().map(|(name, ..)| name), "the examples of the second edition");
+    assert_eq!(examples(".wide.txt"), ["far-edge"], "the texts of the second edition");
+    for (name, plain, guarded, narrow) in expected {
+        let wide = bytes_of(&format!("examples/{name}.wide"));
+        let program = WideProgram::from_parcel(&wide).unwrap_or_else(|refusal| panic!("{name}: {refusal}"));
+        assert_eq!(program.check(Technique::Plain), plain, "{name}, plain");
+        assert_eq!(program.check(Technique::MemoryGuards), guarded, "{name}, with memory guards");
+        assert_eq!(narrowed(&wide), narrow, "{name}");
+        if let Ok(parcel) = narrow {
+            assert_eq!(widened(&parcel), Ok(wide), "{name}");
+        }
+    }
+}
+
+#[test]
+fn longest_parcels_are_those_of_the_header_and_the_crate() {
+    let (header, page) = (text_of("include/post_guard.h"), page());
+    for (name, longest) in [("MAX_PARCEL", post_guard::MAX_PARCEL), ("MAX_WIDE_PARCEL", post_guard::MAX_WIDE_PARCEL)] {
+        assert_eq!(defined(&header, &format!("PG_{name}")), longest.to_string());
+        let bytes = format!("{},{:03} bytes", longest / 1000, longest % 1000);
+        let row = format!(" | 20 to {bytes} | {bytes}: `PG_{name}`, in Rust `{name}` |");
+        assert!(page.lines().any(|line| line.ends_with(&row)), "the page has no row that ends{row}");
     }
 }
 
@@ -170,23 +228,25 @@ fn every_number_has_a_row_under_its_name() {
     }
 }
 
+/// what the header defines the name as
+fn defined(header: &str, name: &str) -> String {
+    let mut definitions = header.lines().filter_map(|line| line.strip_prefix("#define ")?.split_once(' '));
+    let (_, value) = definitions.find(|(other, _)| *other == name).unwrap_or_else(|| panic!("the header has no {name}"));
+    value.split_whitespace().next().unwrap().to_string()
+}
+
 /// Every name of the header's that the page has is defined there; where a number of figures or totals stands in the same cell, as in
 /// `figures[10]`, at `PG_FIGURE_SETS`, the names are defined as these numbers, in their sequence.
 #[test]
 fn names_are_those_of_the_header() {
     let (header, page) = (text_of("include/post_guard.h"), page());
-    let value = |name: &str| {
-        let mut defined = header.lines().filter_map(|line| line.strip_prefix("#define ")?.split_once(' '));
-        let (_, value) = defined.find(|(other, _)| *other == name).unwrap_or_else(|| panic!("the header has no {name}"));
-        value.split_whitespace().next().unwrap().to_string()
-    };
     let mut places = 0;
     for cell in page.lines().flat_map(|line| line.split(" | ")) {
         let quoted: Vec<&str> = cell.split('`').skip(1).step_by(2).collect();
         let names: Vec<&str> = quoted.iter().copied().filter(|text| text.starts_with("PG_")).collect();
         let numbers: Vec<&str> =
             quoted.iter().filter_map(|text| text.split_once('[')?.1.strip_suffix(']')).filter(|at| !at.starts_with("PG_")).collect();
-        let values: Vec<String> = names.iter().map(|name| value(name)).collect();
+        let values: Vec<String> = names.iter().map(|name| defined(&header, name)).collect();
         if cell.contains(", at `PG_") {
             assert_eq!(values, numbers, "{cell}");
             places += names.len();

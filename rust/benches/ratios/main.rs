@@ -1,12 +1,13 @@
 //! Times as ratios: the library's calls, through the safe wrapper, against plain safe Rust that does the same work, both built
-//! for release, in one run. `cargo bench` prints the table of ratios, the check's time by size, and the report's time against
-//! the check's; at last the rows that are over their goal.
+//! for release, in one run. `cargo bench` prints the table of ratios, the check's time by size, and the times of the report and of
+//! the check on 32-bit edges against the check's; at last the rows that are over their goal.
 //!
 //! Like is timed with like. The plain Rust side is a call too: what is timed of it is kept out of line, here and in the
 //! reference, and state and memory are lent. No buffer is cleared between calls, for either side: places are filled once, before
 //! the first round.
 #[path = "../../reference/mod.rs"]
 mod reference;
+mod editions;
 mod programs;
 mod timing;
 
@@ -33,8 +34,12 @@ fn main() {
     refused_checks(&mut table);
     let over_checks = reports(&mut table);
     additions(&mut table);
+    editions::parcels(&mut table, "a small parcel", small());
+    editions::parcels(&mut table, "a full parcel", full());
+    let against_first = editions::checks(&mut table);
     print_growth(&growth);
     print_over_checks(&over_checks);
+    editions::print_against_first(&against_first);
     println!("\n{}", table.told());
 }
 
@@ -247,8 +252,12 @@ fn check_times(technique: Technique, program: &mut Program, answer: Answer, plai
     assert_eq!(check(program), answer);
     assert_eq!(plain_check(program), answer);
     assert_eq!(checkers::check(technique, &program.memory, program.n, &program.edges), answer);
-    let sum = |(number, kind, place): Answer| u64::from(number) + kind + place;
-    measure(1, program, |p| sum(check(p)), |p| sum(plain_check(p)))
+    measure(1, program, |p| answer_sum(check(p)), |p| answer_sum(plain_check(p)))
+}
+
+#[inline(always)]
+fn answer_sum((number, kind, place): Answer) -> u64 {
+    u64::from(number) + kind + place
 }
 
 fn numbers(verdict: guard::Verdict) -> Answer {

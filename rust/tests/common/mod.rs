@@ -227,8 +227,8 @@ pub fn without_jumps(r: &mut Random, technique: Technique, n: usize, d: usize) -
 }
 
 /// Puts the edges into rising sequence; repeated ones stay. A number at the end that is no pair stays there.
-pub fn sort_edges(edges: &mut [u16]) {
-    let mut pairs: Vec<[u16; 2]> = edges.chunks_exact(2).map(|e| [e[0], e[1]]).collect();
+pub fn sort_edges<N: Copy + Ord>(edges: &mut [N]) {
+    let mut pairs: Vec<[N; 2]> = edges.chunks_exact(2).map(|e| [e[0], e[1]]).collect();
     pairs.sort();
     for (to, pair) in edges.chunks_exact_mut(2).zip(pairs) {
         to.copy_from_slice(&pair);
@@ -245,6 +245,30 @@ pub fn rising_edges(r: &mut Random, pairs: usize) -> Vec<u16> {
         set.insert([jump, r.word() as u16]);
     }
     set.into_iter().flatten().collect()
+}
+
+/// Three times in four the edges stay as they are; else two change places, one is listed again, one number changes, or one goes.
+pub fn damage_sequence<N: Copy + Ord + From<u8>>(r: &mut Random, edges: &mut Vec<N>) {
+    if edges.is_empty() || !r.chance(4) {
+        return;
+    }
+    let pairs = edges.len() / 2;
+    let (one, two) = (r.below(pairs) * 2, r.below(pairs) * 2);
+    match r.below(5) {
+        0 => {
+            edges.swap(one, two);
+            edges.swap(one + 1, two + 1);
+        }
+        1 => edges.extend_from_within(one..one + 2),
+        2 => {
+            edges.extend_from_within(one..one + 2);
+            sort_edges(edges);
+        }
+        3 => edges[one + r.below(2)] = N::from(r.below(4) as u8),
+        _ => {
+            edges.pop();
+        }
+    }
 }
 
 /// Lists one to eight edges again, at any place of the list, as far as there is room: the edges then fall or repeat somewhere.
@@ -274,6 +298,25 @@ pub fn parcel_of(p: &Program) -> Option<Vec<u8>> {
     parcel.extend(count(data.len()));
     parcel.extend(data.iter().flat_map(|word| word.to_le_bytes()));
     Some(parcel)
+}
+
+/// Four times in seven a parcel, whose counts stand at these bytes, is damaged: cut off, followed by zeros, or with another count or
+/// another bit.
+pub fn damage_bytes(r: &mut Random, parcel: &mut Vec<u8>, counts: [usize; 3]) {
+    match r.below(7) {
+        0 => parcel.truncate(r.below(parcel.len() + 1)),
+        1 => parcel.extend((0..1 + r.below(9)).map(|_| 0)),
+        2 => {
+            let section = r.pick(&counts);
+            let count = r.pick(&[0, 1, 5, 2048, 2049, u32::MAX, 1 << 29, 1 << 31]);
+            parcel[section..section + 4].copy_from_slice(&count.to_le_bytes());
+        }
+        3 => {
+            let at = r.below(parcel.len());
+            parcel[at] ^= 1 << r.below(8);
+        }
+        _ => {}
+    }
 }
 
 /// A target of a branch: in code, just past it, or far outside.
