@@ -1,4 +1,0 @@
-pub mod Verdicts
-pub mod Conditions
-pub mod Theorems
-pub mod Examples

@@ -1,5 +1,0 @@
-pub mod Blocks
-pub mod Rewrite
-pub mod Rules
-pub mod Theorems
-pub mod Examples
