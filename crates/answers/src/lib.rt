@@ -1,10 +1,12 @@
 // The numbers that calls give (document 01, "Numbers given, in checking order"; 18 is K3's and 19 is K6's, of document 02), by name, and the test
 // behind number 6, which every call on memory and graph makes first.
+#![tactic(auto)]
+
 ghost use Rattle.std.specs.Prelude.{◌≡◌};
 ghost use Rattle.answers.specs.Numbers.{refusal_number};
 ghost use Rattle.answers.specs.Shape.{memory_shaped, edges_shaped, call_shaped};
 
-#[derive(Drop)]
+#[derive(Clone, Copy)]
 pub enum Refusal {
     CountMissing,
     CountLimit,
@@ -28,7 +30,7 @@ pub enum Refusal {
 }
 
 // Where a fault is: an edge, counted from 0, an address, or no place at all.
-#[derive(Drop)]
+#[derive(Clone, Copy)]
 pub enum Place {
     Edge(usize),
     Address(usize),
@@ -36,7 +38,7 @@ pub enum Place {
 }
 
 // What a check answers.
-#[derive(Drop)]
+#[derive(Clone, Copy)]
 pub enum Verdict {
     Accepted,
     Refused(Refusal, Place),

@@ -2,6 +2,8 @@
 //
 // `write_register` takes and returns the state by value; `write_register_lent` works on a state that is lent as words, without
 // a copy.
+#![tactic(auto)]
+
 ghost use Rattle.std.specs.Prelude.{◌≡◌, ◌<◌, ◌≤◌, length, set};
 ghost use Rattle.bus.specs.Bus.{WritesData, WritesRegister};
 ghost use Rattle.bus.specs.Lent.{WritesRegisterLent};
@@ -11,13 +13,13 @@ use answers::Refusal;
 use machine::State;
 
 // What a bus write answers.
-#[derive(Drop)]
+#[derive(Clone, Copy)]
 pub enum Written {
     Done,
     Refused(Refusal),
 }
 
-#[derive(Drop)]
+#[derive(Clone, Copy)]
 pub struct RegisterWritten {
     pub state: State,
     pub answer: Written,

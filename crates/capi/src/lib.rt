@@ -1,4 +1,6 @@
 // The calls for C and Rust: numbers and slices, a slice as its pointer and its length. `include/post_guard.h` declares them.
+#![tactic(auto)]
+
 ghost use Rattle.std.specs.Prelude.{◌≡◌, true, cond, ◌≤◌, length, [], ◌∷◌};
 ghost use Rattle.machine.specs.Numbers.{ending_number};
 ghost use Rattle.bus.specs.Numbers.{written_number};

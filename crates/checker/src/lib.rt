@@ -1,4 +1,6 @@
 // The verdict on a program: the rules of document 01 in their order, and K3's of document 02.
+#![tactic(auto)]
+
 ghost use Rattle.std.specs.Prelude.{◌≡◌, ◌≤◌};
 ghost use Rattle.graph.specs.Claim.{edge_count};
 ghost use Rattle.graph.specs.Passes.{Sized, Owned};

@@ -28,7 +28,7 @@ const JUMP_OF: usize = 48;
 const AIM_OF: usize = 64;
 
 // How much of the lent places a code takes: code words, memory words, edge numbers; and the seed of what is drawn next.
-#[derive(Drop)]
+#[derive(Clone, Copy)]
 pub(crate) struct Code {
     pub(crate) n: usize,
     pub(crate) len: usize,

@@ -10,7 +10,7 @@ use bus::Written;
 use machine::{Ending, Outcome, Ran, State};
 
 // A list of calls under way: what has been counted so far, and the seed of what is drawn next.
-#[derive(Drop)]
+#[derive(Clone, Copy)]
 struct Walk {
     state: State,
     tally: Tally,
@@ -19,7 +19,7 @@ struct Walk {
 
 // A step that was tried: its word's kind, the stop's number, or 0 where it was made, whether it kept to the graph, and
 // whether the code is as it was.
-#[derive(Drop)]
+#[derive(Clone, Copy)]
 struct Tried {
     state: State,
     kind: usize,
@@ -29,7 +29,7 @@ struct Tried {
 }
 
 // What trying steps came to: how many were made, and the last one's stop.
-#[derive(Drop)]
+#[derive(Clone, Copy)]
 struct Walked {
     state: State,
     tally: Tally,

@@ -9,7 +9,7 @@ use answers::{Place, Verdict};
 use isa::Technique;
 
 // What has been counted so far, and the seed of what is drawn next.
-#[derive(Drop)]
+#[derive(Clone, Copy)]
 pub(crate) struct Course {
     pub(crate) tally: Tally,
     pub(crate) seed: u64,

@@ -1,4 +1,6 @@
 // What is not proved is run and compared: random codes by a second checker, and random lists of calls against the graph.
+#![tactic(auto)]
+
 mod build;
 mod calls;
 mod codes;

@@ -1,7 +1,7 @@
 // Numbers that look random, the same ones at every run: Marsaglia's shifts of 13, 7 and 17.
 
 // A number, and the seed of the next.
-#[derive(Drop)]
+#[derive(Clone, Copy)]
 pub(crate) struct Drawn {
     pub(crate) x: usize,
     pub(crate) seed: u64,

@@ -6,7 +6,7 @@ use crate::words::{at, kind_at};
 use crate::{sequences, words};
 
 // A number, 0 for accepted, and the place that goes with it: none, an edge or an address.
-#[derive(Drop)]
+#[derive(Clone, Copy)]
 pub(crate) struct Finding {
     pub(crate) number: usize,
     pub(crate) counts: usize,

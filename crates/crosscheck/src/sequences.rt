@@ -2,7 +2,7 @@
 use crate::words;
 
 // What the words of a guard name: the last address of code is HALT, r0 is held between low and high, a label is held to be ID.
-#[derive(Drop)]
+#[derive(Clone, Copy)]
 pub(crate) struct Guard {
     pub(crate) halt: usize,
     pub(crate) low: usize,

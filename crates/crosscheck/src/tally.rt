@@ -1,5 +1,5 @@
 // How often what came up, each thing at its own place, in the order of the output.
-#[derive(Drop)]
+#[derive(Clone, Copy)]
 pub(crate) struct Tally {
     pub(crate) counts: [u64; 32],
 }

@@ -24,7 +24,7 @@ pub(crate) const ONES: usize = 0xffff_ffff_ffff_ffff;
 
 const ANY: usize = 0xffff_ffff;
 
-#[derive(Drop)]
+#[derive(Clone, Copy)]
 pub(crate) struct Fields {
     pub(crate) op: usize,
     pub(crate) a: usize,

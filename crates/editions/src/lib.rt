@@ -1,4 +1,6 @@
 // The two parcel editions (document 02, K6): a converter each way, from bytes to bytes, and the check on edge numbers of 32 bits.
+#![tactic(auto)]
+
 mod cut;
 mod numbers;
 

@@ -1,1 +1,3 @@
 // Lists of calls over an accepted program, and the theorem about them (document 01, "Lists of calls").
+
+#![tactic(auto)]

@@ -73,8 +73,8 @@ module _ (k : Kind) (hk : known k ≡ true) (x : ℕ) where
           ∙ ap (λ (b : Bool). (fields_of (cond b (instr_of (split x)) Instr.Illegal)).kind) e in
           absurd (true_false hk (ap known s))
 
-  pub is_kind : (eqb (opcode_of k) (x / 2 ^ 56) && exact (fields_as k x)) ≡ is_kind k (decode_of x)
-  is_kind =
+  pub is_kind_lem : (eqb (opcode_of k) (x / 2 ^ 56) && exact (fields_as k x)) ≡ is_kind k (decode_of x)
+  is_kind_lem =
       same_bool _ _
       (λ t.
       formed_kind (eqb-true _ _ (and_left _ (exact (fields_as k x)) t)) (and_right (eqb (opcode_of k) (x / 2 ^ 56)) _ t))
@@ -89,7 +89,7 @@ pub is_known_kind : (k : Kind) (x : ℕ) → (eqb (opcode_of k) (x / 2 ^ 56) && 
 is_known_kind k x = go (known k) refl
   where
     go : (b : Bool) → known k ≡ b → (eqb (opcode_of k) (x / 2 ^ 56) && exact (fields_as k x)) ≡ (known k && is_kind k (decode_of x))
-    go true h = is_kind k h x ∙ sym (ap (λ (b : Bool). b && is_kind k (decode_of x)) h)
+    go true h = is_kind_lem k h x ∙ sym (ap (λ (b : Bool). b && is_kind k (decode_of x)) h)
     go false h =
         ap (λ (b : Bool). eqb (opcode_of k) (x / 2 ^ 56) && b) (ap (λ (b : Bool). b && fields_fit (fields_as k x)) h)
         ∙ and-false (eqb (opcode_of k) (x / 2 ^ 56))

@@ -61,7 +61,7 @@ kind_opcode Kind.Unknown = refl
 
 opcode_small : (k : Kind) → opcode_of k < 256
 opcode_small k =
-    elim k [
+    elim k as (λ (k : Kind). opcode_of k < 256) [
       | Kind.Label ↦ omega arith
       | Kind.Add ↦ omega arith
       | Kind.Addi ↦ omega arith

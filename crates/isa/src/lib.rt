@@ -1,4 +1,6 @@
 // Instruction words: decoder and encoder (document 01, "Words and memory").
+#![tactic(auto)]
+
 ghost use Rattle.std.specs.Prelude.{◌≡◌, cond, ◌&&◌};
 ghost use Rattle.isa.specs.Instructions.{is_illegal, is_kind};
 ghost use Rattle.isa.specs.Words.{kind_of, opcode_of, named_by, register_ok, immediate_ok, known, exact, fields, pack, instr_of, fields_of, all_bits_set, decode_of, word_of, encode_of};
@@ -6,7 +8,7 @@ ghost use Rattle.isa.specs.Inside.{clear_of};
 
 use lists::both;
 
-#[derive(Drop)]
+#[derive(Clone, Copy)]
 pub enum Instr {
     Label(u32),
     Add(u8, u8, u8),
@@ -21,13 +23,14 @@ pub enum Instr {
 }
 
 // How a program is held to its graph, and with it which figure its steps follow: plain, or with memory guards and relaxed steps.
-#[derive(Drop)]
+#[derive(Clone, Copy)]
 pub enum Technique {
     Plain,
     MemoryGuards,
 }
 
 // Each arm tests the form of its own kind: with a constant kind the compiler leaves only the tests that this kind needs.
+#[tactic(auto, using(crate::proofs::Words::decode_arm, crate::proofs::Words::decode_unknown))]
 pub fn decode(word: u64) -> Instr
     ensures { result ≡ decode_of word }
 {
@@ -51,6 +54,7 @@ pub fn decode(word: u64) -> Instr
     }
 }
 
+#[tactic(auto, unfolding(crate::specs::Words::word_of, crate::specs::Words::encode_of))]
 pub fn encode(i: Instr) -> u64
     ensures { result ≡ encode_of i }
 {
@@ -70,6 +74,7 @@ pub fn encode(i: Instr) -> u64
 
 // The word of the instruction that an opcode and fields say; a byte that is no opcode says Illegal, and fields that the
 // instruction does not name are passed over.
+#[tactic(auto, unfolding(crate::specs::Words::word_of, crate::specs::Words::encode_of))]
 pub fn encode_fields(opcode: u8, a: u8, b: u8, c: u8, w: u32) -> u64
     ensures { result ≡ encode_of (instr_of (fields (kind_of opcode) a b c w)) }
 {
@@ -89,6 +94,7 @@ pub fn encode_fields(opcode: u8, a: u8, b: u8, c: u8, w: u32) -> u64
 }
 
 // Whether a word is no exact form, without decoding the rest of it.
+#[tactic(auto, using(crate::proofs::ByKind::illegal_exact))]
 pub fn is_illegal(word: u64) -> bool
     ensures { result ≡ is_illegal (decode_of word) }
 {
@@ -101,6 +107,7 @@ pub fn is_illegal(word: u64) -> bool
 }
 
 // Whether a word is an instruction of this kind, without decoding the rest of it.
+#[tactic(auto, using(crate::proofs::ByKind::is_known_kind))]
 pub fn is_a(kind: Kind, word: u64) -> bool
     ensures { result ≡ (known kind && is_kind kind (decode_of word)) }
 {
@@ -116,6 +123,7 @@ pub fn is_a(kind: Kind, word: u64) -> bool
 }
 
 // The kind of a word, without decoding the rest of it: Unknown where the word is illegal.
+#[tactic(auto, using(crate::proofs::Masks::clear_kind, crate::proofs::Masks::other_kind))]
 pub fn kind_of_word(word: u64) -> Kind
     ensures { result ≡ (fields_of (decode_of word)).kind }
 {
@@ -126,7 +134,7 @@ pub fn kind_of_word(word: u64) -> Kind
     Kind::Unknown
 }
 
-#[derive(Drop)]
+#[derive(Clone, Copy)]
 pub enum Kind {
     Label,
     Add,
@@ -141,7 +149,7 @@ pub enum Kind {
 }
 
 // Which of the fields a, b, c and w an instruction names.
-#[derive(Drop)]
+#[derive(Clone, Copy)]
 struct Named {
     a: bool,
     b: bool,
@@ -150,7 +158,7 @@ struct Named {
 }
 
 // A word's fields, its opcode read as a kind.
-#[derive(Drop)]
+#[derive(Clone, Copy)]
 pub struct Fields {
     pub kind: Kind,
     pub a: u8,
@@ -307,6 +315,7 @@ fn packed(kind: Kind, a: u8, b: u8, c: u8, w: u32) -> u64
 }
 
 // The word of these fields, or the word of Illegal where they are no exact form.
+#[tactic(auto, unfolding(crate::specs::Words::word_of))]
 fn word_of(kind: Kind, a: u8, b: u8, c: u8, w: u32) -> u64
     ensures { result ≡ word_of (fields kind a b c w) }
 {

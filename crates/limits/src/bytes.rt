@@ -8,7 +8,7 @@ pub(crate) const UNTOUCHED_NUMBER: u16 = 0x5a5a;
 pub(crate) const UNTOUCHED_BYTE: u8 = 0x3c;
 
 // Code words, edges and data words of a parcel, each below 4,096.
-#[derive(Drop)]
+#[derive(Clone, Copy)]
 pub(crate) struct Counts {
     pub(crate) code: usize,
     pub(crate) edges: usize,

@@ -1,5 +1,7 @@
 // Parcels at their limits (document 01, "Parcel", and the rows without a star; document 02, K3): read, refused and written back. A
 // refusal, and whatever a call does not put there, must leave the lent places as they were.
+#![tactic(auto)]
+
 mod bytes;
 
 use answers::{Place, Refusal};
@@ -13,7 +15,7 @@ use parcel::{Read, Written};
 const NONE: usize = 65536;
 
 // How many rows were tried, and how many failed.
-#[derive(Drop)]
+#[derive(Clone, Copy)]
 struct Rows {
     tried: u64,
     failed: u64,

@@ -1,4 +1,6 @@
 // The line that the program `verdict` prints: a parcel read, checked plain, and put into words.
+#![tactic(auto)]
+
 ghost use Rattle.std.specs.Prelude.{◌≡◌, [], ◌∷◌, ◌+◌, ◌*◌, ◌≤◌, ◌<◌, length, take};
 ghost use Rattle.parcel.specs.Parcel.{read_of};
 ghost use Rattle.checker.specs.Verdicts.{verdict_of};
@@ -11,7 +13,7 @@ use isa::Technique;
 use parcel::Read;
 
 // What comes of reading a parcel and checking it: code words, edges as listed and data words, or the refusal.
-#[derive(Drop)]
+#[derive(Clone, Copy)]
 pub enum Answer {
     Accepted(usize, usize, usize),
     Refused(Refusal, Place),

@@ -2,6 +2,8 @@
 //
 // `step` and `run` take and return the state by value; `run_lent` works on a state that is lent as words, without a copy. Every
 // step is made by `run_over`, over lent registers: its loop is the one place where the compiler puts the whole of a step.
+#![tactic(auto)]
+
 ghost use Rattle.std.specs.Prelude.{◌≡◌, ◌+◌, ◌<◌, true, length, if◌then◌else◌, slice_index};
 ghost use Rattle.answers.specs.Shape.{memory_shaped};
 ghost use Rattle.isa.specs.Theorems.{Registers};
@@ -16,7 +18,7 @@ use addresses::Access;
 use answers::Refusal;
 use isa::{Instr, Technique};
 
-#[derive(Drop)]
+#[derive(Clone, Copy)]
 pub struct State {
     pub regs: [u64; 32],
     pub pc: u64,
@@ -31,7 +33,7 @@ impl State {
 }
 
 // Why a step cannot be made.
-#[derive(Drop)]
+#[derive(Clone, Copy)]
 pub enum Stop {
     Fetch,
     Illegal,
@@ -39,28 +41,28 @@ pub enum Stop {
     Next,
 }
 
-#[derive(Drop)]
+#[derive(Clone, Copy)]
 pub enum Outcome {
     Made,
     Stopped(Stop),
     Refused(Refusal),
 }
 
-#[derive(Drop)]
+#[derive(Clone, Copy)]
 pub struct Stepped {
     pub state: State,
     pub outcome: Outcome,
 }
 
 // Why a run ended.
-#[derive(Drop)]
+#[derive(Clone, Copy)]
 pub enum Ending {
     Spent,
     Stopped(Stop),
     Refused(Refusal),
 }
 
-#[derive(Drop)]
+#[derive(Clone, Copy)]
 pub struct Ran {
     pub state: State,
     pub ending: Ending,
@@ -68,7 +70,7 @@ pub struct Ran {
 }
 
 // What a run on a lent state answers.
-#[derive(Drop)]
+#[derive(Clone, Copy)]
 pub struct Ended {
     pub ending: Ending,
     pub count: u16,
@@ -143,7 +145,7 @@ pub fn run_lent(
 }
 
 // What a step is about to do: the next pc, with a register or a word of memory to write, or nothing at all.
-#[derive(Drop)]
+#[derive(Clone, Copy)]
 pub enum Effect {
     Go(u64),
     SetRegister(u8, u64, u64),
@@ -152,14 +154,14 @@ pub enum Effect {
 }
 
 // Where a step goes, or why it cannot be made.
-#[derive(Drop)]
+#[derive(Clone, Copy)]
 enum Moved {
     To(u64),
     Stopped(Stop),
 }
 
 // Where a run stands at its end, and why it ended.
-#[derive(Drop)]
+#[derive(Clone, Copy)]
 struct RanTo {
     pc: u64,
     ending: Ending,

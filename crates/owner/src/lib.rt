@@ -1,5 +1,7 @@
 // The calls for C and Rust that a site owner makes: figures of one program, and totals over many. `include/post_guard.h` declares
 // them.
+#![tactic(auto)]
+
 ghost use Rattle.std.specs.Prelude.{◌≡◌, ◌||◌, [], ◌∷◌, ◌+◌, ◌≤◌, ltb, length};
 ghost use Rattle.std.proofs.lemmas.List.Edits.{sets};
 ghost use Rattle.lists.specs.Places.{put_over};

@@ -1,4 +1,6 @@
 // Parcels (document 01, "Parcel"; document 02, K3 and K6): the reader and the writer of each edition.
+#![tactic(auto)]
+
 mod bytes;
 mod reader;
 
@@ -12,13 +14,13 @@ ghost use Rattle.std.proofs.lemmas.List.Edits.{sets};
 use answers::{Place, Refusal};
 
 // An edge number has 16 bits in the first edition and 32 in the second.
-#[derive(Drop)]
+#[derive(Clone, Copy)]
 pub enum Edition {
     First,
     Second,
 }
 
-#[derive(Drop)]
+#[derive(Clone, Copy)]
 pub enum Read {
     Counts {
         code: usize,
@@ -28,7 +30,7 @@ pub enum Read {
     Refused(Refusal, Place),
 }
 
-#[derive(Drop)]
+#[derive(Clone, Copy)]
 pub enum Written {
     Bytes(usize),
     Refused(Refusal, Place),

@@ -6,14 +6,14 @@ ghost use Rattle.parcel.specs.Inner.{CountsAt, end_of, settled_of};
 use crate::{Read, bytes};
 use answers::{Place, Refusal};
 
-#[derive(Drop)]
+#[derive(Clone, Copy)]
 pub(crate) struct Reader<'a> {
     pub(crate) bytes: &'a [u8],
     pub(crate) at: usize,
 }
 
 // What comes of a section's count: how many items there are, or why it is refused.
-#[derive(Drop)]
+#[derive(Clone, Copy)]
 pub(crate) enum Count {
     Items(usize),
     Refused(Refusal),

@@ -1,4 +1,6 @@
 // Figures for the site owner (document 02, K1): how tightly an accepted program is held.
+#![tactic(auto)]
+
 ghost use Rattle.std.specs.Prelude.{◌≡◌, ◌+◌, ◌*◌, ◌≤◌, length, take};
 ghost use Rattle.report.specs.Reports.{refused_report, report_of, parcel_report};
 
@@ -9,14 +11,14 @@ use isa::Technique;
 use parcel::Read;
 
 // The freedom of the computed jumps: the distinct edges, and how many there would be if each jump could go to every code word.
-#[derive(Drop)]
+#[derive(Clone, Copy)]
 pub enum Freedom {
     NoJumps,
     Of(u32, u32),
 }
 
 // Words of each kind, in the sequence of the table of instructions and illegal words last; target sets, the size of the largest.
-#[derive(Drop)]
+#[derive(Clone, Copy)]
 pub struct Figures {
     pub kinds: [u16; 10],
     pub sets: u16,
@@ -24,7 +26,7 @@ pub struct Figures {
     pub freedom: Freedom,
 }
 
-#[derive(Drop)]
+#[derive(Clone, Copy)]
 pub struct Answer {
     pub verdict: Verdict,
     pub figures: Figures,

@@ -12,7 +12,7 @@ use crate::{Figures, Freedom};
 use isa::{Kind, is_a, kind_of_word};
 
 // The size of the largest target set of the jumps, and how many sets they have.
-#[derive(Drop)]
+#[derive(Clone, Copy)]
 struct Sums {
     largest: u16,
     sets: u16,

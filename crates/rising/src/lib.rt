@@ -1,5 +1,7 @@
 // Edges in a fixed sequence (document 02, K3), tested on the numbers alone: number 18, for the checkers and for the writers. Edge
 // numbers of 16 bits and, in the second parcel edition (K6), of 32.
+#![tactic(auto)]
+
 ghost use Rattle.std.specs.Prelude.{◌≡◌, ◌<◌, ◌^◌};
 ghost use Rattle.lists.specs.Search.{any};
 ghost use Rattle.graph.specs.Claim.{edge_count};

@@ -1,4 +1,6 @@
 // Totals over parcels (document 02, K1): the freedoms of up to 65,535 of them added, and which one's is the largest.
+#![tactic(auto)]
+
 ghost use Rattle.std.specs.Prelude.{◌≡◌, ◌+◌, ◌*◌, ◌^◌, ◌<◌};
 ghost use Rattle.report.specs.Reports.{report_of, parcel_report};
 ghost use Rattle.totals.specs.Totals.{addition, fresh_totals, add_report, add_verdict, add_freedom, counted, passed_over, largest_after, is_larger};
@@ -8,14 +10,14 @@ use isa::Technique;
 use report::{Answer, Freedom};
 
 // The parcel with the largest freedom: its place, counted from 0, its distinct edges and its possible ones.
-#[derive(Drop)]
+#[derive(Clone, Copy)]
 pub enum Largest {
     NoParcel,
     Parcel(u16, u32, u32),
 }
 
 // How many parcels were added, those passed over included; the sums of the others' distinct edges and of their possible ones.
-#[derive(Drop)]
+#[derive(Clone, Copy)]
 pub struct Totals {
     pub parcels: u16,
     pub edges: u64,
@@ -25,7 +27,7 @@ pub struct Totals {
 
 // What became of a parcel. Without jumps or refused, it is passed over, but keeps its place; where 65,535 are in, or a sum
 // would pass 64 bits, they are given back as they were.
-#[derive(Drop)]
+#[derive(Clone, Copy)]
 pub enum Added {
     Counted,
     WithoutJumps,
@@ -33,7 +35,7 @@ pub enum Added {
     Unchanged,
 }
 
-#[derive(Drop)]
+#[derive(Clone, Copy)]
 pub struct Addition {
     pub totals: Totals,
     pub answer: Added,

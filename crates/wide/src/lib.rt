@@ -1,5 +1,7 @@
 // The calls for C and Rust on the second parcel edition (document 02, K6): reader, writer, check and the converters.
 // `include/post_guard.h` declares them.
+#![tactic(auto)]
+
 ghost use Rattle.std.specs.Prelude.{◌≡◌, cond, ◌||◌, [], ◌∷◌, ltb};
 ghost use Rattle.lists.specs.Places.{shorter, put_over};
 ghost use Rattle.parcel.specs.Parcel.{read_of};
