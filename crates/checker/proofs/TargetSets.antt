@@ -358,9 +358,9 @@ module _ (edges : List ℕ) (n : ℕ) (w : Within edges n) where
         one_apart edges n j (λ i l a b ja ia. met.one j i a (edge_below edges n w j a ja).0 l ja ia (none a ja))
 
     -- the first edge with a contested target starts at the lowest jump that breaks the rule
-    pub first_broken : Rising edges → (k : ℕ) → k < edge_count edges → ((i : ℕ) → i < k → get_or own (target_of edges i) 0 ≢ n + 1)
+    pub first_broken_lem : Rising edges → (k : ℕ) → k < edge_count edges → ((i : ℕ) → i < k → get_or own (target_of edges i) 0 ≢ n + 1)
         → get_or own (target_of edges k) 0 ≡ n + 1 → jump_of edges k ≡ lowest (overlaps edges n) n
-    first_broken r k l none e =
+    first_broken_lem r k l none e =
         lowest_at (overlaps edges n) n (jump_of edges k) (w.jumps k l)
         (λ j q. uncontested_kept j λ t h z.
         let v = edge_of edges n j t h in

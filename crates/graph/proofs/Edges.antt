@@ -53,9 +53,9 @@ module _ (edges : List ℕ) (n : ℕ) where
         eqb-true (target_of edges v.0) t (and_right (eqb (jump_of edges v.0) j) _ v.2),
       )
 
-  pub has_edge : (j t : ℕ) → is_edge edges j t ≡ true → has_edge edges j ≡ true
+  pub has_edge_lem : (j t : ℕ) → is_edge edges j t ≡ true → has_edge edges j ≡ true
   unfolding has_edge
-  has_edge j t h = let k = edge_of j t h in any_hit _ (edge_count edges) k.0 k.1 (eq-eqb _ _ k.2)
+  has_edge_lem j t h = let k = edge_of j t h in any_hit _ (edge_count edges) k.0 k.1 (eq-eqb _ _ k.2)
 
   module _ (w : Within edges n) where
     pub edge_below : (j t : ℕ) → is_edge edges j t ≡ true → (j < n) × (t < n)

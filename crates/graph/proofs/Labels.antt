@@ -16,7 +16,7 @@ use Rattle.isa.specs.Instructions.{instr_at, label_number}
 use Rattle.graph.specs.Claim.{edge_count, jump_of, target_of, is_destination, id_of}
 use Rattle.graph.specs.Rules.{is_label, is_label_of, label_wrong}
 use Rattle.graph.specs.Passes.{Owned, label_amiss}
-use Rattle.graph.proofs.Edges.{edge_at, id_below, has_edge}
+use Rattle.graph.proofs.Edges.{edge_at, id_below, has_edge_lem}
 
 module _ (memory : List ℕ) (n : ℕ) (edges own : List ℕ) (h : Owned edges n own) where
   abbrev m : ℕ
@@ -41,7 +41,7 @@ module _ (memory : List ℕ) (n : ℕ) (edges own : List ℕ) (h : Owned edges n
       let k = any_witness (λ k. eqb (target_of edges k) a) m e in
       let here = ap (λ (x : ℕ). get_or own x 0) (eqb-true (target_of edges k.0) a k.2) in
       let edge = edge_at edges n k.0 k.1 in
-      let b = id_below edges n h.within (jump_of edges k.0) (has_edge edges n (jump_of edges k.0) (target_of edges k.0) edge) in
+      let b = id_below edges n h.within (jump_of edges k.0) (has_edge_lem edges n (jump_of edges k.0) (target_of edges k.0) edge) in
       inl (refl, omega (arith, here, h.held k.0 k.1, b))
   destined a l false e = inr (refl, omega (arith, h.free a l e))
 
@@ -52,9 +52,9 @@ module _ (memory : List ℕ) (n : ℕ) (edges own : List ℕ) (h : Owned edges n
   by_owner (some w) d o (inl c) = rw (c.0, lt-leb n o c.1) (sym (or-false (not (eqb w o))))
   by_owner (some w) d o (inr c) = rw (c.0, le-leb n o c.1)
 
-  pub label_wrong : (a : ℕ) → a < n → label_amiss (label_number (instr_at memory a)) (get_or own a 0) n ≡ label_wrong memory n edges a
+  pub label_wrong_lem : (a : ℕ) → a < n → label_amiss (label_number (instr_at memory a)) (get_or own a 0) n ≡ label_wrong memory n edges a
   unfolding is_destination
-  label_wrong a l =
+  label_wrong_lem a l =
       let label = label_number (instr_at memory a) in
       rw (wrong_edge a label, any_and (λ k. eqb (target_of edges k) a) (not (is_label_of label (get_or own a 0))) m)
       (by_owner label (is_destination edges a) (get_or own a 0) (destined a l (is_destination edges a) refl))

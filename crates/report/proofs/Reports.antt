@@ -27,9 +27,9 @@ module _ (t : Technique) (memory : List ℕ) (n : ℕ) (edges : List ℕ) {v : V
       → record { verdict = Verdict.Accepted; figures = figures } ≡ report_of t memory n edges
   accepted_report e f = ap (λ (x : Figures). report_by Verdict.Accepted x) f ∙ by_verdict Verdict.Accepted e
 
-  pub refused_report : {why : Refusal} {place : Place} {r : Answer} → v ≡ Verdict.Refused why place → r ≡ refused_report why place
+  pub refused_report_lem : {why : Refusal} {place : Place} {r : Answer} → v ≡ Verdict.Refused why place → r ≡ refused_report why place
       → r ≡ report_of t memory n edges
-  refused_report {why} {place} e f = f ∙ by_verdict (Verdict.Refused why place) e
+  refused_report_lem {why} {place} e f = f ∙ by_verdict (Verdict.Refused why place) e
 
 pub refused_parcel : (t : Technique) (s : List ℕ) {why : Refusal} {place : Place} → room_for 4096 4096 (read_of 2 s) ≡ Read.Refused why place
     → refused_report why place ≡ content_report t (read_of 2 s)

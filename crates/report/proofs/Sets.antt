@@ -19,7 +19,7 @@ use Rattle.isa.specs.Instructions.{instr_at, is_jump}
 use Rattle.graph.specs.Claim.{edge_count, is_edge, has_edge, id_of}
 use Rattle.graph.specs.Rules.{sets_differ}
 use Rattle.graph.specs.Passes.{Sized}
-use Rattle.graph.proofs.Edges.{has_edge, edge_below, id_below}
+use Rattle.graph.proofs.Edges.{has_edge_lem, edge_below, id_below}
 use Rattle.report.specs.declared.Freedom.{Freedom}
 use Rattle.report.specs.declared.passes.Sums.{Sums}
 use Rattle.report.specs.Figures.{words_of_kind, freedom_by, set_size, is_new_set, sets_of, highest, largest_of, figures_of}
@@ -68,7 +68,7 @@ module _ (memory : List ℕ) (n : ℕ) (edges : List ℕ) (h : Held memory n edg
   -- ---- the size of a set: a jump has as many targets as there are labels with its ID
   size_none : (j : ℕ) → has_edge edges j ≡ false → 0 ≡ set_size edges n j
   unfolding set_size
-  size_none j e = count_zero (is_edge edges j) n (λ t q. refuted _ (λ x. true_false (has_edge edges n j t x) e))
+  size_none j e = count_zero (is_edge edges j) n (λ t q. refuted _ (λ x. true_false (has_edge_lem edges n j t x) e))
 
   size_some : (j : ℕ) → has_edge edges j ≡ true → set_size edges n j ≡ labels_of memory n (id_of edges n j)
   unfolding set_size times_in
@@ -81,7 +81,7 @@ module _ (memory : List ℕ) (n : ℕ) (edges : List ℕ) (h : Held memory n edg
       let w = any_witness (λ t. eqb (label_at memory n t) s) n (any_count (λ t. eqb (label_at memory n t) s) n ∙ ap not (ne_eqb _ 0 ne)) in
       let e = eqb-true _ _ w.2 in
       let v = h.used w.0 w.1 (subst (λ (x : ℕ). x < n) (sym e) l) in
-      let has = has_edge edges n v.0 w.0 v.1 in
+      let has = has_edge_lem edges n v.0 w.0 v.1 in
       let same = eqb-true _ _ (sym (h.labels v.0 w.0 has w.1) ∙ v.1) in
       (v.0, (edge_below edges n h.within v.0 w.0 v.1).0, has, sym same ∙ e)
 
