@@ -9,6 +9,7 @@ ghost use Rattle.rising.specs.Rising.{not_rising, first_not_rising};
 ghost use Rattle.rising.specs.Inside.{IsRank};
 
 // Number 18: the first edge that is not above the one before it, or how many edges there are.
+#[tactic(auto, using(lists::proofs::Search::lowest_none, lists::proofs::Search::any_none))]
 pub fn first_not_rising(edges: &[u16]) -> usize
     ensures { result ≡ first_not_rising edges.now }
 {
@@ -19,6 +20,7 @@ pub fn first_not_rising(edges: &[u16]) -> usize
 }
 
 // The same of edge numbers of 32 bits.
+#[tactic(auto, using(lists::proofs::Search::lowest_none, lists::proofs::Search::clean_none, crate::proofs::Rising::passed_one, crate::proofs::Rising::passed_all, crate::proofs::Rising::passed_falls, crate::proofs::Rising::passed_more))]
 pub fn first_not_rising_wide(edges: &[u32]) -> usize
     ensures { result ≡ first_not_rising edges.now }
 {
@@ -40,6 +42,7 @@ pub fn first_not_rising_wide(edges: &[u32]) -> usize
 }
 
 // Whether there is one. No edge ends the loop before the last, so that the compiler can take several edges at a time.
+#[tactic(auto, using(lists::proofs::Search::any_clean, lists::proofs::Search::clean_none, lists::proofs::Search::clean_more, crate::proofs::Rising::rank_falls), unfolding(lists::specs::Search::any))]
 fn some_not_rising(edges: &[u16]) -> bool
     ensures { result ≡ any (not_rising edges.now) (edge_count edges.now) }
 {
@@ -59,6 +62,7 @@ fn some_not_rising(edges: &[u16]) -> bool
     found
 }
 
+#[tactic(auto, using(lists::proofs::Search::lowest_none, lists::proofs::Search::clean_none, crate::proofs::Rising::passed_one, crate::proofs::Rising::passed_all, crate::proofs::Rising::passed_falls, crate::proofs::Rising::passed_more))]
 fn find_not_rising(edges: &[u16]) -> usize
     ensures { result ≡ first_not_rising edges.now }
 {
