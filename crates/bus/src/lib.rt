@@ -26,6 +26,7 @@ pub struct RegisterWritten {
 }
 
 // A bus write to a data word: the part of memory from n onward is handed on as the data part.
+#[tactic(auto, using(crate::proofs::Bus::put_part), unfolding(crate::specs::Bus::write_data_of, crate::specs::Bus::write_data_memory))]
 pub fn write_data(memory: &mut [u64], n: usize, address: u64, word: u64) -> Written
     ensures { WritesData n memory.old address word result memory.new }
 {
@@ -44,6 +45,7 @@ pub fn write_data(memory: &mut [u64], n: usize, address: u64, word: u64) -> Writ
 }
 
 // A bus write to a register.
+#[tactic(auto, using(crate::proofs::Lent::register_written))]
 pub fn write_register(state: State, register: u64, word: u64) -> RegisterWritten
     ensures { WritesRegister state register word result }
 {

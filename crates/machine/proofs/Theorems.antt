@@ -107,9 +107,9 @@ module _ (t : Technique) (n : ℕ) where
       access_number (leb (store_start t n) at && ltb at (length m)) (Effect.PutWord at (reg_of s rs) (s.pc + 1)) (s.pc + 1) (put_number_lem _ _ _)
   effect_number_lem m s Instr.Illegal = refl
 
-  pub step_number : (m : List ℕ) (s : State) → outcome_number (step_of t n m s).outcome ≡ step_number t n m s
+  pub step_number_lem : (m : List ℕ) (s : State) → outcome_number (step_of t n m s).outcome ≡ step_number t n m s
   unfolding step_of intent_of
-  step_number m s = go (memory_shaped (length m) n) (ltb s.pc (fetch_end t n (length m))) refl refl
+  step_number_lem m s = go (memory_shaped (length m) n) (ltb s.pc (fetch_end t n (length m))) refl refl
     where
       i : Instr
       i = instr_at m s.pc
@@ -128,7 +128,7 @@ steps t n m s r m' answer memory =
     record {
       answer = answer;
       memory = memory;
-      number = ap (λ (x : Stepped). outcome_number x.outcome) answer ∙ step_number t n m s;
+      number = ap (λ (x : Stepped). outcome_number x.outcome) answer ∙ step_number_lem t n m s;
     }
 
 -- a step keeps the memory's length

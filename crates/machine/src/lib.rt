@@ -88,6 +88,7 @@ pub fn stop_number(stop: Stop) -> u8
 }
 
 // One step: a run with limit 1. The memory is n words of code and then the data.
+#[tactic(auto, using(crate::proofs::OneStep::one_step, crate::proofs::Theorems::steps))]
 pub fn step(technique: Technique, state: State, memory: &mut [u64], n: usize) -> Stepped
     ensures { Steps technique n memory.old state result memory.new }
 {
@@ -169,6 +170,7 @@ struct RanTo {
 }
 
 // The run over lent registers.
+#[tactic(auto, using(crate::proofs::Steps::turn_made, crate::proofs::Steps::turn_stopped, crate::proofs::Steps::run_spent), unfolding(crate::specs::Runs::run_of, crate::specs::Runs::run_memory))]
 fn run_over(
     technique: Technique,
     regs: &mut [u64],
@@ -210,6 +212,7 @@ fn run_over(
 }
 
 // One step over lent registers.
+#[tactic(auto, using(crate::proofs::Steps::intent_in))]
 fn advance(technique: Technique, memory: &mut [u64], n: usize, regs: &mut [u64], pc: u64) -> Moved
     requires { (memory_shaped (length memory.old) n ≡ true) × (length regs.old ≡ 32) }
     ensures { Carried (intent_of technique n memory.old (state_of regs.old pc)) regs.old memory.old result regs.new memory.new }
@@ -218,6 +221,7 @@ fn advance(technique: Technique, memory: &mut [u64], n: usize, regs: &mut [u64],
     perform(memory, regs, effect)
 }
 
+#[tactic(auto, unfolding(crate::specs::Steps::memory_after, crate::specs::Inside::moved_of, crate::specs::Inside::registers_after))]
 fn perform(memory: &mut [u64], regs: &mut [u64], effect: Effect) -> Moved
     requires { InRange (length memory.old) effect × (length regs.old ≡ 32) }
     ensures { Carried effect regs.old memory.old result regs.new memory.new }
@@ -238,6 +242,7 @@ fn perform(memory: &mut [u64], regs: &mut [u64], effect: Effect) -> Moved
     }
 }
 
+#[tactic(auto, using(answers::proofs::Shape::shaped, crate::proofs::Steps::fetch_within, isa::proofs::Words::decode_registers), unfolding(crate::specs::Steps::intent_of))]
 fn intent(technique: Technique, memory: &[u64], n: usize, regs: &[u64], pc: u64) -> Effect
     requires { (memory_shaped (length memory.now) n ≡ true) × (length regs.now ≡ 32) }
     ensures { result ≡ intent_of technique n memory.now (state_of regs.now pc) }
@@ -251,6 +256,7 @@ fn intent(technique: Technique, memory: &[u64], n: usize, regs: &[u64], pc: u64)
 }
 
 // What the instruction does, or why it cannot. Each arm tests its own next pc: that is faster than one test after the match.
+#[tactic(auto, unfolding(crate::specs::Steps::settle_of, crate::specs::Steps::effect_of))]
 fn effect_of(
     technique: Technique,
     memory: &[u64],
@@ -326,12 +332,14 @@ fn branch(x: u64, y: u64, w: u64, next: u64) -> u64
     if y < x { w } else { next }
 }
 
+#[tactic(auto, unfolding(crate::specs::Steps::settle_of))]
 fn go(technique: Technique, n: usize, next: u64) -> Effect
     ensures { result ≡ settle_of technique n (Effect.Go next) }
 {
     effect_if(next_allowed(technique, n, next), Effect::Go(next))
 }
 
+#[tactic(auto, unfolding(crate::specs::Steps::settle_of))]
 fn set_register(technique: Technique, n: usize, rd: u8, value: u64, next: u64) -> Effect
     ensures { result ≡ settle_of technique n (Effect.SetRegister rd value next) }
 {
@@ -341,6 +349,7 @@ fn set_register(technique: Technique, n: usize, rd: u8, value: u64, next: u64) -
     )
 }
 
+#[tactic(auto, using(addresses::proofs::Addresses::at_exact, addresses::proofs::Addresses::past_top, crate::proofs::Steps::past_end), unfolding(crate::specs::Steps::settle_of, crate::specs::Steps::load_of))]
 fn load(
     technique: Technique,
     memory: &[u64],
@@ -362,6 +371,7 @@ fn load(
     Effect::Stop(Stop::Access)
 }
 
+#[tactic(auto, using(addresses::proofs::Addresses::at_exact, addresses::proofs::Addresses::past_top, crate::proofs::Steps::past_end), unfolding(crate::specs::Steps::settle_of, crate::specs::Steps::store_of))]
 fn store(
     technique: Technique,
     memory: &[u64],
