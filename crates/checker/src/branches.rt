@@ -11,6 +11,7 @@ use crate::code::{jump_at, store_at};
 use isa::{Kind, Technique, is_a};
 
 // Rule 15: the lowest bgt or jd that breaks the target condition, or n.
+#[tactic(auto, using(lists::proofs::Search::lowest_at, lists::proofs::Search::lowest_none, lists::proofs::Search::clean_none, lists::proofs::Search::clean_more, guards::proofs::Endings::branch_wrong_lem))]
 pub(crate) fn first_wrong_branch(
     technique: Technique,
     memory: &[u64],
@@ -30,6 +31,7 @@ pub(crate) fn first_wrong_branch(
     a
 }
 
+#[tactic(auto, using(isa::proofs::ByKind::no_branch, isa::proofs::ByKind::branch_low))]
 fn is_wrong_branch(technique: Technique, memory: &[u64], n: usize, a: usize) -> bool
     requires { (n ≤ 2048) × (n ≤ length memory.now) × (a < n) }
     ensures { result ≡ branch_bad technique memory.now n (instr_at memory.now a) }
@@ -77,6 +79,7 @@ fn is_inside_guard(technique: Technique, memory: &[u64], n: usize, w: usize) -> 
 }
 
 // Whether a st, or a jmp, stands in code from w on, before the last of len words.
+#[tactic(auto, using(lists::proofs::Search::clean_more, guards::proofs::Endings::near_at, guards::proofs::Endings::near_before, guards::proofs::Endings::near_not, guards::proofs::Endings::near_hit, guards::proofs::Endings::near_none))]
 fn ends_near(memory: &[u64], n: usize, store: bool, len: usize, w: usize) -> bool
     requires { (n ≤ 2048) × (n ≤ length memory.now) × (1 ≤ len) × (len ≤ 10) × (w ≤ n) }
     ensures { result ≡ ending_near (ending_kind store) memory.now n len w }

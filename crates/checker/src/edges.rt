@@ -36,6 +36,7 @@ fn starts_at_no_jump(memory: &[u64], n: usize, edges: &[u16], k: usize) -> bool
 }
 
 // Rule 7: the first edge that starts where no jmp of the code is, or their number.
+#[tactic(auto, using(lists::proofs::Search::lowest_at, lists::proofs::Search::lowest_none, lists::proofs::Search::clean_none, lists::proofs::Search::clean_more))]
 pub(crate) fn first_from_no_jump(memory: &[u64], n: usize, edges: &[u16]) -> usize
     requires { n ≤ length memory.now }
     ensures { result ≡ lowest (starts_at_no_jump memory.now n edges.now) (edge_count edges.now) }
@@ -52,6 +53,7 @@ pub(crate) fn first_from_no_jump(memory: &[u64], n: usize, edges: &[u16]) -> usi
 }
 
 // Rule 8: the first edge whose target is outside code, or their number.
+#[tactic(auto, using(lists::proofs::Search::lowest_at, lists::proofs::Search::lowest_none, lists::proofs::Search::clean_none, lists::proofs::Search::clean_more))]
 pub(crate) fn first_outside_code(n: usize, edges: &[u16]) -> usize
     ensures { result ≡ lowest (ends_outside_code n edges.now) (edge_count edges.now) }
 {
@@ -82,6 +84,7 @@ pub(crate) fn target_of(edges: &[u16], n: usize, k: usize) -> usize
 }
 
 // Where the edges from k on that start at j end: the first that starts elsewhere, or their number.
+#[tactic(auto, using(crate::proofs::Runs::stretch_none, crate::proofs::Runs::stretch_more))]
 pub(crate) fn run_end(edges: &[u16], k: usize, j: usize) -> usize
     requires { k ≤ edge_count edges.now }
     ensures { Run edges.now j k result }
@@ -98,6 +101,7 @@ pub(crate) fn run_end(edges: &[u16], k: usize, j: usize) -> usize
 }
 
 // Rule 9: the lowest jmp without an edge, or n. Edge k is the first that starts at a or above.
+#[tactic(auto, using(lists::proofs::Search::lowest_at, lists::proofs::Search::lowest_none, lists::proofs::Search::clean_none, lists::proofs::Search::clean_more, crate::proofs::Runs::cut_none, crate::proofs::Runs::cut_run, crate::proofs::Runs::run_none))]
 pub(crate) fn first_without_edge(memory: &[u64], n: usize, edges: &[u16]) -> usize
     requires { (n ≤ length memory.now) × Rising edges.now }
     ensures { result ≡ lowest (lacks_edge memory.now edges.now) n }

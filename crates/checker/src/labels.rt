@@ -10,6 +10,7 @@ ghost use Rattle.graph.specs.Passes.{Owned, label_amiss};
 use isa::{Kind, is_a};
 
 // Rule 12: the lowest address where the label condition fails, or n.
+#[tactic(auto, using(lists::proofs::Search::lowest_at, lists::proofs::Search::lowest_none, lists::proofs::Search::clean_none, lists::proofs::Search::clean_more, graph::proofs::Labels::label_wrong_lem))]
 pub(crate) fn first_label_wrong(memory: &[u64], n: usize, edges: &[u16], own: &[u16; 2048]) -> usize
     requires { (n ≤ length memory.now) × Owned edges.now n own.now }
     ensures { result ≡ lowest (label_wrong memory.now n edges.now) n }
@@ -25,6 +26,7 @@ pub(crate) fn first_label_wrong(memory: &[u64], n: usize, edges: &[u16], own: &[
 }
 
 // Whether the word is not what its address asks, by the ID that owns the address, or n: the label of that ID, or no label.
+#[tactic(auto, using(isa::proofs::ByKind::no_label, isa::proofs::ByKind::label_low))]
 fn is_amiss(word: u64, owner: u16, n: usize) -> bool
     ensures { result ≡ label_amiss (label_number (decode_of word)) owner n }
 {

@@ -28,6 +28,7 @@ use unguarded::{first_bare_jump, first_bare_store};
 
 // Whether the n words of code at the front of memory, with these edges, keep the technique's conditions, and if not, the
 // number and the place of the first fault.
+#[tactic(auto, using(lists::proofs::Bools::and_left, lists::proofs::Bools::and_right, crate::proofs::Rules::broken_once, crate::proofs::Rules::kept_once, crate::proofs::Rules::sized, crate::proofs::Rules::few_edges), unfolding(crate::specs::Verdicts::verdict_of))]
 pub fn check(technique: Technique, memory: &[u64], n: usize, edges: &[u16]) -> Verdict
     ensures { result ≡ verdict_of technique memory.now n edges.now }
 {
@@ -38,6 +39,7 @@ pub fn check(technique: Technique, memory: &[u64], n: usize, edges: &[u16]) -> V
 }
 
 // Rules 7, 8 and 18, and those after them.
+#[tactic(auto, using(lists::proofs::Search::clean_of, graph::proofs::Edges::within_of, rising::proofs::Rising::clean_rising, crate::proofs::Rules::broken, crate::proofs::Rules::kept))]
 fn check_edges(technique: Technique, memory: &[u64], n: usize, edges: &[u16]) -> Verdict
     requires { Sized memory.now n × (edge_count edges.now ≤ 2048) }
     ensures { result ≡ first_broken (from_edges technique memory.now n edges.now) }
@@ -59,6 +61,7 @@ fn check_edges(technique: Technique, memory: &[u64], n: usize, edges: &[u16]) ->
 }
 
 // Rules 9 and 10, and those after them.
+#[tactic(auto, using(lists::proofs::Search::clean_of, lists::proofs::Tables::table_new, crate::proofs::Rules::broken, crate::proofs::Rules::kept))]
 fn check_sets(technique: Technique, memory: &[u64], n: usize, edges: &[u16]) -> Verdict
     requires { Claimed memory.now n edges.now }
     ensures { result ≡ first_broken (from_sets technique memory.now n edges.now) }
@@ -77,6 +80,7 @@ fn check_sets(technique: Technique, memory: &[u64], n: usize, edges: &[u16]) -> 
 }
 
 // Rules 11 and 12, and those after them.
+#[tactic(auto, using(crate::proofs::Rules::broken, crate::proofs::Rules::kept, crate::proofs::Rules::broken_once, crate::proofs::Rules::kept_once))]
 fn check_labels(
     technique: Technique,
     memory: &[u64],
@@ -98,6 +102,7 @@ fn check_labels(
 }
 
 // Rules 13 to 15.
+#[tactic(auto, using(lists::proofs::Search::clean_of, crate::proofs::Rules::broken, crate::proofs::Rules::kept, crate::proofs::Rules::no_rule))]
 fn check_guards(technique: Technique, memory: &[u64], n: usize, edges: &[u16]) -> Verdict
     requires { Claimed memory.now n edges.now × Leaving memory.now n edges.now }
     ensures { result ≡ first_broken (guard_rules technique memory.now n edges.now) }

@@ -128,6 +128,7 @@ pub(crate) fn store_frees() -> [u8; 10]
 }
 
 // Whether the sequence of len words stands in memory with its last word at a; the word at `place` of it is `apart` (10 is no place).
+#[tactic(auto, using(guards::proofs::Arrays::slots_length), unfolding(guards::specs::Sequences::ends_at))]
 pub(crate) fn ends_at(
     memory: &[u64],
     words: &[u64; 10],
@@ -146,6 +147,7 @@ pub(crate) fn ends_at(
     stands_at(memory, a + 1 - len, words, place, apart, free, len)
 }
 
+#[tactic(auto, using(guards::proofs::Arrays::rest_all, guards::proofs::Arrays::rest_none, guards::proofs::Arrays::rest_step, guards::proofs::Arrays::formed_step))]
 fn stands_at(
     memory: &[u64],
     b: usize,
@@ -182,6 +184,7 @@ fn immediate_if(any: bool, word: u64) -> u64
 }
 
 // Whether a word, its free fields taken out, is the pattern's.
+#[tactic(auto, using(guards::proofs::Forms::fits_whole, guards::proofs::Forms::fits_not, guards::proofs::Forms::fits_rest))]
 fn word_fits(word: u64, pattern: u64, free: u8) -> bool
     requires { Form (slot_of pattern free) }
     ensures { result ≡ fits (slot_of pattern free) (decode_of word) }

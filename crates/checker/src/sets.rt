@@ -14,6 +14,7 @@ use crate::edges::{jump_of, run_end, target_of};
 use lists::both;
 
 // Rule 10: the lowest jump whose target set meets another's and differs from it, or n; then `own` has each address's owner.
+#[tactic(auto, using(crate::proofs::TargetSets::none_broken, crate::proofs::TargetSets::overlapped))]
 pub(crate) fn first_overlap(edges: &[u16], n: usize, own: &mut [u16; 2048]) -> usize
     requires { Within edges.now n × Rising edges.now × Table own.old n (λ _. n) }
     ensures { Overlapped result edges.now n own.new }
@@ -26,6 +27,7 @@ pub(crate) fn first_overlap(edges: &[u16], n: usize, own: &mut [u16; 2048]) -> u
 }
 
 // Puts every set in, and tells whether all of them fit.
+#[tactic(auto, using(lists::proofs::Bools::and_left, lists::proofs::Bools::and_right, crate::proofs::Runs::run_at, crate::proofs::Runs::run_some, crate::proofs::Runs::cut_none, crate::proofs::Runs::cut_at, crate::proofs::Runs::cut_run, crate::proofs::Runs::cut_between, crate::proofs::Runs::jumps_rise, crate::proofs::Runs::edges_of, crate::proofs::TargetSets::put_none, crate::proofs::TargetSets::put_skip))]
 fn put_sets(edges: &[u16], n: usize, own: &mut [u16; 2048], size: &mut [u16; 2048]) -> bool
     requires { Within edges.now n × Rising edges.now × Table own.old n (λ _. n) × (length size.old ≡ 2048) }
     ensures { AllPut result edges.now n own.new }
@@ -45,6 +47,7 @@ fn put_sets(edges: &[u16], n: usize, own: &mut [u16; 2048], size: &mut [u16; 204
 
 // The set of the jump whose edges are those from k to end, and whether it fits: one that was met is there already, a new one is put
 // in, and one that clashes is contested.
+#[tactic(auto, using(crate::proofs::TargetSets::told, crate::proofs::TargetSets::put_broken, crate::proofs::TargetSets::put_new, crate::proofs::TargetSets::put_met))]
 fn put_set(
     edges: &[u16],
     n: usize,
@@ -70,6 +73,7 @@ fn put_set(
 }
 
 // Whether the set is new, or one that was met: all its addresses nobody's, or all its ID's, and as many.
+#[tactic(auto, using(crate::proofs::TargetSets::told, crate::proofs::TargetSets::unlike_broken, crate::proofs::TargetSets::new_fits, crate::proofs::TargetSets::met_judged))]
 fn fits(
     edges: &[u16],
     n: usize,
@@ -92,6 +96,7 @@ fn fits(
     both(owner == id as u16, size[id] == (end - k) as u16)
 }
 
+#[tactic(auto, using(crate::proofs::Runs::stretch_none, crate::proofs::Runs::stretch_more, crate::proofs::Runs::own_edge, crate::proofs::Runs::all_targets))]
 fn owned_by(edges: &[u16], n: usize, k: usize, end: usize, owner: u16, own: &[u16; 2048]) -> bool
     requires { Within edges.now n × EdgesOf edges.now n k end }
     ensures { OwnedBy result edges.now (jump_of edges.now k) owner own.now }
@@ -107,6 +112,7 @@ fn owned_by(edges: &[u16], n: usize, k: usize, end: usize, owner: u16, own: &[u1
     true
 }
 
+#[tactic(auto, using(crate::proofs::Runs::owner_none, crate::proofs::Runs::owner_more, crate::proofs::Runs::owner_all))]
 fn put_owner(edges: &[u16], n: usize, k: usize, end: usize, owner: u16, own: &mut [u16; 2048])
     requires { Within edges.now n × EdgesOf edges.now n k end × (length own.old ≡ 2048) }
     ensures { Table own.new n (λ t. cond (is_edge edges.now (jump_of edges.now k) t) owner (get_or own.old t 0)) }
@@ -120,6 +126,7 @@ fn put_owner(edges: &[u16], n: usize, k: usize, end: usize, owner: u16, own: &mu
 }
 
 // The jump of the first edge with a contested target, which is the lowest such jump, or n.
+#[tactic(auto, using(crate::proofs::Runs::stretch_none, crate::proofs::Runs::stretch_more, crate::proofs::TargetSets::first_broken_lem, crate::proofs::TargetSets::none_broken))]
 fn first_contested(edges: &[u16], n: usize, own: &[u16; 2048]) -> usize
     requires { Within edges.now n × Rising edges.now × Met edges.now n n own.now }
     ensures { result ≡ lowest (overlaps edges.now n) n }

@@ -16,6 +16,7 @@ use crate::patterns::{
 use isa::Technique;
 
 // Rule 13: the lowest st without its form or sequence, or n; without memory guards none is asked.
+#[tactic(auto, using(lists::proofs::Search::lowest_none))]
 pub(crate) fn first_bare_store(technique: Technique, memory: &[u64], n: usize) -> usize
     requires { Sized memory.now n }
     ensures { result ≡ lowest (store_unguarded technique memory.now n) n }
@@ -26,6 +27,7 @@ pub(crate) fn first_bare_store(technique: Technique, memory: &[u64], n: usize) -
     }
 }
 
+#[tactic(auto, using(lists::proofs::Search::lowest_at, lists::proofs::Search::lowest_none, lists::proofs::Search::clean_none, lists::proofs::Search::clean_more))]
 fn first_store_unguarded(memory: &[u64], n: usize) -> usize
     requires { Sized memory.now n }
     ensures { result ≡ lowest (store_unguarded Technique.MemoryGuards memory.now n) n }
@@ -41,6 +43,7 @@ fn first_store_unguarded(memory: &[u64], n: usize) -> usize
     a
 }
 
+#[tactic(auto, using(guards::proofs::Arrays::store_kept))]
 fn is_bare_store(memory: &[u64], n: usize, a: usize, words: &[u64; 10]) -> bool
     requires { Sized memory.now n × (a < n) × (words.now ≡ words_of 10 (store_guard n (length memory.now))) }
     ensures { result ≡ store_unguarded Technique.MemoryGuards memory.now n a }
@@ -57,6 +60,7 @@ fn is_bare_store(memory: &[u64], n: usize, a: usize, words: &[u64; 10]) -> bool
 
 // Rule 14: the lowest jmp without its form or sequence, or n. The jmps of the code are where the edges start, and the first edge of
 // each goes to its set's ID.
+#[tactic(auto, using(crate::proofs::Runs::run_at, crate::proofs::Runs::run_some, crate::proofs::Runs::cut_none, crate::proofs::Runs::cut_at, crate::proofs::Runs::cut_run, crate::proofs::GuardedJumps::guarded_more, crate::proofs::GuardedJumps::first_bare, crate::proofs::GuardedJumps::none_bare))]
 pub(crate) fn first_bare_jump(
     technique: Technique,
     memory: &[u64],
@@ -81,6 +85,7 @@ pub(crate) fn first_bare_jump(
 }
 
 // Whether the sequence for this ID ends at a.
+#[tactic(auto, using(guards::proofs::Arrays::jump_kept, guards::proofs::Arrays::jump_length_low))]
 fn is_guarded_jump(
     technique: Technique,
     memory: &[u64],
