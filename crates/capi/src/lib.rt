@@ -18,8 +18,7 @@ use isa::Technique;
 use machine::Ending;
 use parcel::{Edition, Read};
 
-#[unsafe(no_mangle)]
-pub extern "C" fn pg_decode(word: u64, place: &mut [u32]) -> u32
+pub fn pg_decode(word: u64, place: &mut [u32]) -> u32
     ensures { DecodeCall word place.old result place.new }
 {
     if place.len() < 5 {
@@ -38,24 +37,21 @@ pub extern "C" fn pg_decode(word: u64, place: &mut [u32]) -> u32
     0
 }
 
-#[unsafe(no_mangle)]
-pub extern "C" fn pg_encode(opcode: u8, a: u8, b: u8, c: u8, w: u32) -> u64
+pub fn pg_encode(opcode: u8, a: u8, b: u8, c: u8, w: u32) -> u64
     ensures { result ≡ encode_call opcode a b c w }
 {
     isa::encode_fields(opcode, a, b, c, w)
 }
 
 // A step is a run with limit 1.
-#[unsafe(no_mangle)]
-pub extern "C" fn pg_step(technique: u8, state: &mut [u64], memory: &mut [u64], n: usize) -> u32
+pub fn pg_step(technique: u8, state: &mut [u64], memory: &mut [u64], n: usize) -> u32
     ensures { StepCall technique n state.old memory.old result state.new memory.new }
 {
     let ran = run_number(order_of(technique, 1), state, memory, n);
     (ran % 0x1_0000_0000) as u32
 }
 
-#[unsafe(no_mangle)]
-pub extern "C" fn pg_run(
+pub fn pg_run(
     technique: u8,
     state: &mut [u64],
     memory: &mut [u64],
@@ -76,22 +72,19 @@ pub extern "C" fn pg_run(
     (ran % 0x1_0000_0000) as u32
 }
 
-#[unsafe(no_mangle)]
-pub extern "C" fn pg_write_data(memory: &mut [u64], n: usize, address: u64, word: u64) -> u32
+pub fn pg_write_data(memory: &mut [u64], n: usize, address: u64, word: u64) -> u32
     ensures { WriteDataCall n memory.old address word result memory.new }
 {
     written_number(bus::write_data(memory, n, address, word))
 }
 
-#[unsafe(no_mangle)]
-pub extern "C" fn pg_write_register(state: &mut [u64], register: u64, word: u64) -> u32
+pub fn pg_write_register(state: &mut [u64], register: u64, word: u64) -> u32
     ensures { WriteRegisterCall state.old register word result state.new }
 {
     written_number(bus::write_register_lent(state, register, word))
 }
 
-#[unsafe(no_mangle)]
-pub extern "C" fn pg_check(
+pub fn pg_check(
     technique: u8,
     memory: &[u64],
     n: usize,
@@ -109,8 +102,7 @@ pub extern "C" fn pg_check(
     )
 }
 
-#[unsafe(no_mangle)]
-pub extern "C" fn pg_read_parcel(
+pub fn pg_read_parcel(
     parcel: &[u8],
     memory: &mut [u64],
     edges: &mut [u16],
@@ -124,8 +116,7 @@ pub extern "C" fn pg_read_parcel(
     put_read(counts, parcel::read_parcel(parcel, memory, edges))
 }
 
-#[unsafe(no_mangle)]
-pub extern "C" fn pg_write_parcel(
+pub fn pg_write_parcel(
     memory: &[u64],
     n: usize,
     edges: &[u16],
@@ -138,8 +129,7 @@ pub extern "C" fn pg_write_parcel(
 }
 
 // The same, with the place of a refusal put down.
-#[unsafe(no_mangle)]
-pub extern "C" fn pg_write_parcel_placed(
+pub fn pg_write_parcel_placed(
     memory: &[u64],
     n: usize,
     edges: &[u16],

@@ -17,8 +17,7 @@ use lists::both;
 use report::{Answer, Figures, Freedom};
 use totals::{Added, Addition, Largest, Totals};
 
-#[unsafe(no_mangle)]
-pub extern "C" fn pg_report(
+pub fn pg_report(
     technique: u8,
     memory: &[u64],
     n: usize,
@@ -35,8 +34,7 @@ pub extern "C" fn pg_report(
     answer_report(made, figures, place)
 }
 
-#[unsafe(no_mangle)]
-pub extern "C" fn pg_report_parcel(
+pub fn pg_report_parcel(
     technique: u8,
     parcel: &[u8],
     figures: &mut [u64],
@@ -51,8 +49,7 @@ pub extern "C" fn pg_report_parcel(
     answer_report(made, figures, place)
 }
 
-#[unsafe(no_mangle)]
-pub extern "C" fn pg_add_report(
+pub fn pg_add_report(
     technique: u8,
     memory: &[u64],
     n: usize,
@@ -69,8 +66,7 @@ pub extern "C" fn pg_add_report(
     answer_addition(made, sums, place)
 }
 
-#[unsafe(no_mangle)]
-pub extern "C" fn pg_add_parcel(
+pub fn pg_add_parcel(
     technique: u8,
     parcel: &[u8],
     sums: &mut [u64],

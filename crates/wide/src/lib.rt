@@ -17,8 +17,7 @@ use capi::{
 };
 use parcel::{Edition, Written};
 
-#[unsafe(no_mangle)]
-pub extern "C" fn pg_check_wide(
+pub fn pg_check_wide(
     technique: u8,
     memory: &[u64],
     n: usize,
@@ -36,8 +35,7 @@ pub extern "C" fn pg_check_wide(
     )
 }
 
-#[unsafe(no_mangle)]
-pub extern "C" fn pg_read_wide_parcel(
+pub fn pg_read_wide_parcel(
     parcel: &[u8],
     memory: &mut [u64],
     edges: &mut [u32],
@@ -51,8 +49,7 @@ pub extern "C" fn pg_read_wide_parcel(
     put_read(counts, parcel::read_wide_parcel(parcel, memory, edges))
 }
 
-#[unsafe(no_mangle)]
-pub extern "C" fn pg_write_wide_parcel(
+pub fn pg_write_wide_parcel(
     memory: &[u64],
     n: usize,
     edges: &[u32],
@@ -67,8 +64,7 @@ pub extern "C" fn pg_write_wide_parcel(
     put_written(written, count, place)
 }
 
-#[unsafe(no_mangle)]
-pub extern "C" fn pg_widen(
+pub fn pg_widen(
     parcel: &[u8],
     wide: &mut [u8],
     count: &mut [u64],
@@ -81,8 +77,7 @@ pub extern "C" fn pg_widen(
     put_written(written, count, place)
 }
 
-#[unsafe(no_mangle)]
-pub extern "C" fn pg_narrow(
+pub fn pg_narrow(
     wide: &[u8],
     parcel: &mut [u8],
     count: &mut [u64],
