@@ -12,10 +12,13 @@ mod sequences;
 mod tally;
 mod words;
 
-fn main() {
+use std::io;
+
+fn main(rt: HostRuntime) -> io::Result<()> {
     let counts = codes::compare_some(60000);
-    tally::print(b"accepted #\n", &counts, 0);
+    tally::print(&rt, b"accepted #\n", &counts, 0)?;
     tally::print(
+        &rt,
         b"refused 6: #
 refused 7: #
 refused 8: #
@@ -36,5 +39,5 @@ bus writes #, refused #, answered wrongly #
 ",
         &counts,
         6,
-    );
+    )
 }

@@ -1,3 +1,5 @@
+use std::io;
+
 // How often what came up, each thing at its own place, in the order of the output.
 #[derive(Clone, Copy)]
 pub(crate) struct Tally {
@@ -52,22 +54,33 @@ pub(crate) fn count(tally: Tally, place: usize, came_up: bool) -> Tally {
 }
 
 // The text, with the next count for each '#', from a place on.
-pub(crate) fn print(text: &[u8], counts: &[u64; 32], from: usize) {
+pub(crate) fn print(
+    rt: &impl Print,
+    text: &[u8],
+    counts: &[u64; 32],
+    from: usize,
+) -> io::Result<()> {
     let mut place = from;
     let mut k = 0;
     while k < text.len() {
-        place = print_one(text[k], counts, place);
+        place = print_one(rt, text[k], counts, place)?;
         k += 1;
     }
+    Ok(())
 }
 
-fn print_one(byte: u8, counts: &[u64; 32], place: usize) -> usize {
+fn print_one(
+    rt: &impl Print,
+    byte: u8,
+    counts: &[u64; 32],
+    place: usize,
+) -> io::Result<usize> {
     if byte != b'#' {
-        io::write_all(1, &[byte]);
-        return place;
+        rt.write_all(&[byte])?;
+        return Ok(place);
     }
     if place < 32 {
-        io::print_decimal(1, counts[place]);
+        rt.print(counts[place])?;
     }
-    std::num::wrapping_add_usize(place, 1)
+    Ok(std::num::wrapping_add_usize(place, 1))
 }

@@ -10,6 +10,7 @@ use bytes::{
     holds, laid, laid_with_huge, laid_with_repeat, same_front, size_of, sum,
 };
 use parcel::{Read, Written};
+use std::io;
 
 // No edge: every edge rises.
 const NONE: usize = 65536;
@@ -37,23 +38,19 @@ impl Rows {
         }
     }
 
-    fn print(self, name: &[u8]) {
-        io::write_all(1, name);
-        io::print_decimal(1, self.tried);
-        io::write_all(1, b" rows, failed ");
-        io::print_decimal(1, self.failed);
-        io::write_all(1, b"\n");
+    fn print(self, rt: &impl Print, name: &str) -> io::Result<()> {
+        println!(rt; "{name}{} rows, failed {}", self.tried, self.failed)
     }
 }
 
-fn main() {
-    limits().print(b"parcel limits: ");
-    huge_counts().print(b"counts of 2^32 - 1: ");
-    short_places().print(b"places one too short: ");
-    cuts().print(b"parcels cut short or too long: ");
-    written_back().print(b"parcels written back: ");
-    not_written_back().print(b"parcels read, and not written back: ");
-    refused_writes().print(b"refused by the writer: ");
+fn main(rt: HostRuntime) -> io::Result<()> {
+    limits().print(&rt, "parcel limits: ")?;
+    huge_counts().print(&rt, "counts of 2^32 - 1: ")?;
+    short_places().print(&rt, "places one too short: ")?;
+    cuts().print(&rt, "parcels cut short or too long: ")?;
+    written_back().print(&rt, "parcels written back: ")?;
+    not_written_back().print(&rt, "parcels read, and not written back: ")?;
+    refused_writes().print(&rt, "refused by the writer: ")
 }
 
 // "2,048 code words read, 2,049 give 2; 2,048 edges read, 2,049 give 2", and so for 0 code words and for data.

@@ -3,10 +3,30 @@
 // `prefix_suffices`). An input that cannot be read counts as empty.
 #![tactic(auto)]
 
-fn main() {
-    let mut input = io::large_buffer();
-    let got = io::read_full(0, &mut input);
+ghost use Rattle.std.specs.Prelude.{◌≤◌, length};
+
+use std::io;
+use std::io::Read;
+
+fn main(rt: HostRuntime) -> io::Result<()> {
+    let mut input = [0u8; 65536];
+    let got = read_full(&mut rt.stdin(), &mut input);
     let mut text = [0u8; 80];
     let size = line::verdict_line(&input[..got], &mut text);
-    io::write_all(1, &text[..size]);
+    rt.write_all(&text[..size])
+}
+
+// Reads until the place is full, the input ends or a read fails, and answers how many bytes it put at the front.
+fn read_full<R: Read>(input: &mut R, place: &mut [u8]) -> usize
+    ensures { result ≤ length place.new }
+{
+    let mut done = 0;
+    while done < place.len() {
+        match input.read(&mut place[done..]) {
+            Ok(0) => break,
+            Ok(n) => done += n,
+            Err(_) => break,
+        }
+    }
+    done
 }
