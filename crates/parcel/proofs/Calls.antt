@@ -17,7 +17,7 @@ use Rattle.lists.specs.Places.{shorter, put_over}
 use Rattle.graph.specs.Claim.{edge_count}
 use Rattle.rising.specs.Rising.{first_not_rising, Rising}
 use Rattle.rising.proofs.Rising.{first_found, none_rising, rising_none}
-use Rattle.parcel.specs.Parcel.{Content, holds, refused, read_of, memory_in, edges_in, after_write, parcel_of, WrittenSo}
+use Rattle.parcel.specs.Parcel.{Content, holds, read_of, memory_in, edges_in, after_write, parcel_of, WrittenSo}
 use Rattle.parcel.specs.Theorems.{WrittenBack, NotWritten, WrittenWhereRising, ReadAfterWrite, ReadThenWritten, WriteAfterRead}
 use Rattle.parcel.specs.declared.Read.{Read}
 use Rattle.parcel.specs.declared.Written.{Written}

@@ -5,6 +5,7 @@ ghost use Rattle.parcel.specs.Bytes.{number_of, bytes_of, numbers_of, all_bytes_
 ghost use Rattle.lists.specs.Places.{put_over};
 
 // The k words of eight bytes from at, into the front of to.
+#[tactic(auto, using(crate::proofs::Runs::reading_starts, crate::proofs::Runs::reading_ends))]
 pub(crate) fn words_into(s: &[u8], at: usize, k: usize, to: &mut [u64])
     requires { (at + k * 8 ≤ length s.now) × (k ≤ length to.old) }
     ensures { to.new ≡ put_over (numbers_of 8 k (drop at s.now)) to.old }
@@ -17,6 +18,7 @@ pub(crate) fn words_into(s: &[u8], at: usize, k: usize, to: &mut [u64])
 }
 
 // The k edge numbers of two bytes from at, into the front of to.
+#[tactic(auto, using(crate::proofs::Runs::reading_starts, crate::proofs::Runs::reading_ends))]
 pub(crate) fn edges_into(s: &[u8], at: usize, k: usize, to: &mut [u16])
     requires { (at + k * 2 ≤ length s.now) × (k ≤ length to.old) }
     ensures { to.new ≡ put_over (numbers_of 2 k (drop at s.now)) to.old }
@@ -29,6 +31,7 @@ pub(crate) fn edges_into(s: &[u8], at: usize, k: usize, to: &mut [u16])
 }
 
 // The k edge numbers of four bytes from at, into the front of to.
+#[tactic(auto, using(crate::proofs::Runs::reading_starts, crate::proofs::Runs::reading_ends))]
 pub(crate) fn wide_edges_into(s: &[u8], at: usize, k: usize, to: &mut [u32])
     requires { (at + k * 4 ≤ length s.now) × (k ≤ length to.old) }
     ensures { to.new ≡ put_over (numbers_of 4 k (drop at s.now)) to.old }
@@ -41,6 +44,7 @@ pub(crate) fn wide_edges_into(s: &[u8], at: usize, k: usize, to: &mut [u32])
 }
 
 // The words xs, eight bytes each, from at on.
+#[tactic(auto, using(crate::proofs::Runs::writing_starts, crate::proofs::Runs::writing_goes_on, crate::proofs::Runs::writing_ends))]
 pub(crate) fn put_words(s: &mut [u8], at: usize, xs: &[u64])
     requires { at + length xs.now * 8 ≤ length s.old }
     ensures { s.new ≡ sets s.old at (all_bytes_of 8 xs.now) }
@@ -53,6 +57,7 @@ pub(crate) fn put_words(s: &mut [u8], at: usize, xs: &[u64])
 }
 
 // The edge numbers xs, two bytes each, from at on.
+#[tactic(auto, using(crate::proofs::Runs::writing_starts, crate::proofs::Runs::writing_goes_on, crate::proofs::Runs::writing_ends))]
 pub(crate) fn put_edges(s: &mut [u8], at: usize, xs: &[u16])
     requires { at + length xs.now * 2 ≤ length s.old }
     ensures { s.new ≡ sets s.old at (all_bytes_of 2 xs.now) }
@@ -65,6 +70,7 @@ pub(crate) fn put_edges(s: &mut [u8], at: usize, xs: &[u16])
 }
 
 // The edge numbers xs, four bytes each, from at on.
+#[tactic(auto, using(crate::proofs::Runs::writing_starts, crate::proofs::Runs::writing_goes_on, crate::proofs::Runs::writing_ends))]
 pub(crate) fn put_wide_edges(s: &mut [u8], at: usize, xs: &[u32])
     requires { at + length xs.now * 4 ≤ length s.old }
     ensures { s.new ≡ sets s.old at (all_bytes_of 4 xs.now) }

@@ -173,6 +173,7 @@ fn planned(len: usize, n: usize, numbers: usize, first: usize, width: usize, roo
 }
 
 // A section of words from at on: their count, then the words.
+#[tactic(auto, using(crate::proofs::Sections::section_put))]
 fn put_word_section(s: &mut [u8], at: usize, xs: &[u64])
     requires { (at + (4 + length xs.now * 8) ≤ length s.old) × (length xs.now ≤ 4096) }
     ensures { s.new ≡ sets s.old at (section_of 8 1 xs.now) }
@@ -182,6 +183,7 @@ fn put_word_section(s: &mut [u8], at: usize, xs: &[u64])
 }
 
 // A section of edges from at on: their count, then their numbers.
+#[tactic(auto, using(crate::proofs::Sections::section_put))]
 fn put_edge_section(s: &mut [u8], at: usize, xs: &[u16])
     requires { (at + (4 + length xs.now * 2) ≤ length s.old) × (length xs.now ≤ 4096) }
     ensures { s.new ≡ sets s.old at (section_of 2 2 xs.now) }
@@ -190,6 +192,7 @@ fn put_edge_section(s: &mut [u8], at: usize, xs: &[u16])
     bytes::put_edges(s, at + 4, xs);
 }
 
+#[tactic(auto, using(crate::proofs::Sections::section_put))]
 fn put_wide_edge_section(s: &mut [u8], at: usize, xs: &[u32])
     requires { (at + (4 + length xs.now * 4) ≤ length s.old) × (length xs.now ≤ 4096) }
     ensures { s.new ≡ sets s.old at (section_of 4 2 xs.now) }

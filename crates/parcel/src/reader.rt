@@ -20,6 +20,7 @@ pub(crate) enum Count {
 }
 
 // How many code words, edges of `size` bytes and data words a parcel holds.
+#[tactic(auto, using(crate::proofs::Standing::end_within))]
 pub(crate) fn counts(parcel: &[u8], size: usize) -> Read
     requires { size ≤ 8 }
     ensures { CountsAt size parcel.now result }
@@ -67,6 +68,7 @@ fn left<'a>(r: Reader<'a>) -> usize
 }
 
 // The count of the section that begins at `at`: low to 2,048 items of `size` bytes, which are all there.
+#[tactic(auto, unfolding(crate::specs::Parcel::count_of))]
 fn count_at(bytes: &[u8], at: usize, size: usize, low: usize) -> Count
     requires { (at ≤ length bytes.now) × (size ≤ 8) }
     ensures { result ≡ count_of size low (drop at bytes.now) }
