@@ -20,10 +20,10 @@ use Rattle.graph.specs.Claim.{id_of}
 use Rattle.guards.specs.declared.Slot.{Slot}
 use Rattle.guards.specs.Sequences.{jump_guard, store_guard}
 use Rattle.guards.proofs.Known.{st_there}
-use Rattle.conditions.specs.Conditions.{Listed, IsId, EndsWith, InnerWord, StoresGuarded, OutsideStoreGuards, Graph, Conditions}
-use Rattle.conditions.proofs.Listed.{destination_listed, listed_destination}
-use Rattle.conditions.proofs.Readings.{jump_instr}
-use Rattle.conditions.proofs.Equivalence.{jump_last}
+use Rattle.checker.specs.Conditions.{Listed, IsId, EndsWith, InnerWord, StoresGuarded, OutsideStoreGuards, Graph, Conditions}
+use Rattle.checker.proofs.Listed.{destination_listed, listed_destination}
+use Rattle.checker.proofs.Readings.{jump_instr}
+use Rattle.checker.proofs.Equivalence.{jump_last}
 use Rattle.guarded.specs.Rewrite.{body_size, map_of, new_length, new_jump, new_edges}
 use Rattle.guarded.specs.Theorems.{Rewritable, new_memory}
 use Rattle.guarded.proofs.Cases.{target_of_lem}
@@ -64,8 +64,8 @@ module _ (t : Technique) (bare : List ℕ) (n : ℕ) (edges values : List ℕ) (
 
   -- ---- shape
 
-  pub edge_count : length claim ≡ length edges
-  edge_count =
+  pub claim_length : length claim ≡ length edges
+  claim_length =
       let even = eqb-true (length edges % 2) 0 (and_left _ _ ok.edges_shaped) in
       let e = edges_length t bare edges in
       omega arith
@@ -78,7 +78,7 @@ module _ (t : Technique) (bare : List ℕ) (n : ℕ) (edges values : List ℕ) (
       both_true
       (both_true (le-leb 1 N (omega arith))
       (both_true (le-leb N 2048 x) (both_true (le-leb N (length memory) (omega arith)) (le-leb (length memory - N) 2048 (omega arith)))))
-      (ap edges_shaped edge_count ∙ ok.edges_shaped)
+      (ap edges_shaped claim_length ∙ ok.edges_shaped)
 
   -- ---- the graph
 

@@ -14,8 +14,8 @@ use Rattle.lists.proofs.Search.{lowest_is}
 use Rattle.isa.specs.declared.Technique.{Technique}
 use Rattle.graph.specs.Claim.{edge_count, jump_of, target_of, is_edge, id_of}
 use Rattle.rising.specs.Rising.{Above, Rising}
-use Rattle.conditions.specs.Conditions.{Listed, IsId, Graph}
-use Rattle.conditions.proofs.Listed.{place_listed, id_found, id_same}
+use Rattle.checker.specs.Conditions.{Listed, IsId, Graph}
+use Rattle.checker.proofs.Listed.{place_listed, id_found, id_same}
 use Rattle.guarded.specs.Blocks.{start_of}
 use Rattle.guarded.specs.Rewrite.{map_of, set_of, new_jump, new_edge, new_edges}
 use Rattle.guarded.proofs.Blocks.{laid_length, laid_at}
@@ -42,9 +42,9 @@ module _ (t : Technique) (bare edges : List ℕ) where
   edge_number k i h l =
       rw (start_pairs k) at (laid_at (new_edge t bare edges) (λ _. 2) pair (edge_count edges) k i h l)
 
-  pub new_jump : (k : ℕ) → k < edge_count edges → jump_of (new_edges t bare edges) k ≡ new_jump t bare edges (jump_of edges k)
+  pub new_jump_lem : (k : ℕ) → k < edge_count edges → jump_of (new_edges t bare edges) k ≡ new_jump t bare edges (jump_of edges k)
   unfolding new_edge
-  new_jump k h = let z : 2 * k + 0 ≡ 2 * k = omega arith in rw z at (edge_number k 0 h (omega arith))
+  new_jump_lem k h = let z : 2 * k + 0 ≡ 2 * k = omega arith in rw z at (edge_number k 0 h (omega arith))
 
   pub new_target : (k : ℕ) → k < edge_count edges → target_of (new_edges t bare edges) k ≡ map_of t bare edges (target_of edges k)
   unfolding new_edge
@@ -77,11 +77,11 @@ module _ (t : Technique) (bare edges : List ℕ) where
       go : Above edges i k → Above (new_edges t bare edges) i k
       go (inl p) =
           let m = jump_lt (jump_of edges i) (jump_of edges k) p in
-          inl (omega (arith, new_jump i (omega (arith, below)), new_jump k below))
+          inl (omega (arith, new_jump_lem i (omega (arith, below)), new_jump_lem k below))
       go (inr (e, p)) =
           let m = map_lt t bare edges (target_of edges i) (target_of edges k) p in
           inr (
-            new_jump i (omega (arith, below)) ∙ ap (new_jump t bare edges) e ∙ sym (new_jump k below),
+            new_jump_lem i (omega (arith, below)) ∙ ap (new_jump t bare edges) e ∙ sym (new_jump_lem k below),
             omega (arith, new_target i (omega (arith, below)), new_target k below),
           )
 
@@ -93,7 +93,7 @@ module _ (t : Technique) (bare edges : List ℕ) where
       record {
         place = l.place;
         within = omega arith;
-        jump = new_jump l.place h ∙ ap (new_jump t bare edges) l.jump;
+        jump = new_jump_lem l.place h ∙ ap (new_jump t bare edges) l.jump;
         target = new_target l.place h ∙ ap (map_of t bare edges) l.target;
       }
 
@@ -112,7 +112,7 @@ module _ (t : Technique) (bare edges : List ℕ) where
         j = jump_of edges l.place;
         x = target_of edges l.place;
         listed = place_listed edges l.place h;
-        jump = sym l.jump ∙ new_jump l.place h;
+        jump = sym l.jump ∙ new_jump_lem l.place h;
         target = sym l.target ∙ new_target l.place h;
       }
 

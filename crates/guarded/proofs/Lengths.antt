@@ -14,7 +14,7 @@ use Rattle.isa.specs.declared.Instr.{Instr}
 use Rattle.isa.specs.declared.Technique.{Technique}
 use Rattle.isa.specs.Instructions.{instr_at, is_jump, is_store}
 use Rattle.graph.specs.Claim.{is_destination}
-use Rattle.conditions.proofs.Listed.{destination_listed, listed_destination}
+use Rattle.checker.proofs.Listed.{destination_listed, listed_destination}
 use Rattle.guarded.specs.Blocks.{start_of}
 use Rattle.guarded.specs.Rewrite.{body_size, map_of, new_length}
 use Rattle.guarded.specs.Theorems.{OneMore, jumps_in, stores_in, destinations_in}

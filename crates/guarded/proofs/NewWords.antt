@@ -22,7 +22,7 @@ use Rattle.graph.specs.Claim.{is_destination, id_of}
 use Rattle.guards.specs.declared.Slot.{Slot}
 use Rattle.guards.specs.Sequences.{jump_guard, store_guard}
 use Rattle.guards.proofs.Arrays.{jump_formed, store_formed}
-use Rattle.conditions.specs.Conditions.{EndsWith}
+use Rattle.checker.specs.Conditions.{EndsWith}
 use Rattle.guarded.specs.Rewrite.{guards_stores, body_size, block_size, map_of, new_length, filled, with_target, set_of, new_jump}
 use Rattle.guarded.specs.Theorems.{Rewritable, Stand, new_memory, body_start}
 use Rattle.guarded.proofs.Blocks.{locate}
@@ -35,7 +35,7 @@ use Rattle.guarded.proofs.Places.{
   map_le,
   memory_length,
   last_word,
-  label_at,
+  label_at_lem,
   body_ends,
   jump_stands,
   store_stands,
@@ -71,7 +71,7 @@ module _ (t : Technique) (bare : List ℕ) (n : ℕ) (edges values : List ℕ) (
 
   pub label_back : (a : ℕ) → a < n → is_destination edges a ≡ true → instr_at memory (new a) ≡ Instr.Label (new (set_of edges n a))
   label_back a h e =
-      ap decode_of (label_at t bare n edges values a h e)
+      ap decode_of (label_at_lem t bare n edges values a h e)
       ∙ round_trips.instruction_back (Instr.Label (new (set_of edges n a))) tt (new_low (set_of edges n a) (id_low edges n _))
 
   -- ---- guards

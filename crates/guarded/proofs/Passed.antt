@@ -12,8 +12,8 @@ use Rattle.isa.specs.declared.Kind.{Kind}
 use Rattle.isa.specs.declared.Technique.{Technique}
 use Rattle.isa.specs.Instructions.{is_kind}
 use Rattle.rising.proofs.Rising.{clean_rising}
-use Rattle.conditions.proofs.Faultless.{claim_passed}
-use Rattle.conditions.proofs.Equivalence.{claim_graph}
+use Rattle.checker.proofs.Faultless.{claim_passed}
+use Rattle.checker.proofs.Equivalence.{claim_graph}
 use Rattle.guarded.specs.Rewrite.{new_length}
 use Rattle.guarded.specs.Rules.{outside, word_rules, length_rule, bare_verdict_of}
 use Rattle.guarded.specs.Theorems.{Rewritable}

@@ -158,10 +158,10 @@ module _ (t : Technique) (bare : List ℕ) (n : ℕ) (edges values : List ℕ) w
       ∙ laid_at (block_at t bare n edges D) (block_size t bare edges) (block_length t bare n edges D) n a k h l
 
   -- a destination's label
-  pub label_at : (a : ℕ) → a < n → is_destination edges a ≡ true
+  pub label_at_lem : (a : ℕ) → a < n → is_destination edges a ≡ true
       → get_or memory (map_of t bare edges a) 0 ≡ encode_of (Instr.Label (map_of t bare edges (set_of edges n a)))
   unfolding block_at
-  label_at a h e =
+  label_at_lem a h e =
       let z : map_of t bare edges a + 0 ≡ map_of t bare edges a = omega arith in
       let p = body_pos t (instr_at bare a) in
       (rw z at (block_at_lem a 0 h (omega arith)))

@@ -3,7 +3,7 @@ use mathlib.Core.Path.{refl}
 use Rattle.lists.specs.Search.{lowest, any}
 use Rattle.isa.specs.Words.{decode_of, encode_of, word_of}
 use Rattle.graph.specs.Claim.{is_edge, has_edge, is_destination, id_of}
-use Rattle.conditions.specs.Verdicts.{first_broken}
+use Rattle.checker.specs.Verdicts.{first_broken}
 use Rattle.guarded.specs.Blocks.{start_of, laid}
 use Rattle.guarded.specs.Rewrite.{block_at, new_edge}
 use Rattle.guarded.specs.Rules.{bare_verdict_of}

@@ -13,7 +13,7 @@ use Rattle.isa.specs.Words.{encode_of}
 use Rattle.isa.specs.Instructions.{instr_at, is_jump, is_store, branch_target}
 use Rattle.graph.specs.Claim.{id_of}
 use Rattle.guards.specs.Sequences.{store_guard}
-use Rattle.conditions.proofs.Equivalence.{accepted_exactly}
+use Rattle.checker.proofs.Equivalence.{accepted_exactly}
 use Rattle.guarded.specs.Rewrite.{
   guards_stores,
   block_size,
@@ -34,16 +34,16 @@ use Rattle.guarded.proofs.Places.{
   map_lt,
   code_length,
   last_word,
-  label_at,
+  label_at_lem,
   body_ends,
   jump_stands,
   store_stands,
   other_stands,
 }
 use Rattle.guarded.proofs.Lengths.{plain_map, guarded_map, one_edge}
-use Rattle.guarded.proofs.Claims.{new_jump, new_target, jump_next, new_listed, moved, id_moved}
+use Rattle.guarded.proofs.Claims.{new_jump_lem, new_target, jump_next, new_listed, moved, id_moved}
 use Rattle.guarded.proofs.Fill.{one_stands}
-use Rattle.guarded.proofs.Accepted.{edge_count, conditions}
+use Rattle.guarded.proofs.Accepted.{claim_length, conditions}
 use Rattle.guarded.proofs.Passed.{may_rewrite}
 
 module _ (t : Technique) (bare : List ℕ) (n : ℕ) (edges values : List ℕ) where
@@ -84,11 +84,11 @@ module _ (t : Technique) (bare : List ℕ) (n : ℕ) (edges values : List ℕ) w
     block : Block t bare n edges values a
     block =
         record {
-          label = λ e. one_stands memory (new a) _ (label_at t bare n edges values a h e);
+          label = λ e. one_stands memory (new a) _ (label_at_lem t bare n edges values a h e);
           jump = λ rs e.
               subst (λ (i : Instr). Stand memory (start a) (jump_words t N (new (id_of edges n a)) i)) e
               (jump_stands t bare n edges values a h (ap is_jump e));
-          new_jump = λ rs e.
+          jump_last = λ rs e.
               let s = jump_size t 0 (instr_at bare a) 0 (ap is_jump e) in
               let z = body_ends t bare n edges values a in
               let j = jump_next t bare edges a in
@@ -111,8 +111,8 @@ module _ (t : Technique) (bare : List ℕ) (n : ℕ) (edges values : List ℕ) w
         block = block;
         all_blocks = λ p h. locate (block_size t bare edges) n p (omega arith);
         last_illegal = last_word t bare n edges values;
-        edge_count = edge_count t bare n edges values ok;
-        edge_from = new_jump t bare edges;
+        claim_length = claim_length t bare n edges values ok;
+        edge_from = new_jump_lem t bare edges;
         edge_to = new_target t bare edges;
         edge_moved = new_listed t bare edges;
         edge_back = λ J X l. let m = moved t bare edges J X l in (m.j, (m.x, (m.listed, m.jump, m.target)));

@@ -1,6 +1,5 @@
 -- Blocks of numbers laid one after the other, and where each begins.
-use Prim.Native.Nat.{ℕ, zero, suc, ◌+◌}
-use mathlib.Core.List.{List, [], ◌++◌}
+use Rattle.std.specs.Prelude.{ℕ, zero, suc, ◌+◌, List, [], ◌++◌}
 
 -- the sizes of the blocks before a, added up
 unfoldable pub start_of : (ℕ → ℕ) → ℕ → ℕ

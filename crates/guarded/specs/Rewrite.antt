@@ -1,11 +1,7 @@
 -- Guards put in for the installer (document 02, K7): from bare code and its edges the guarded code, its edges and "a map from each old
 -- address to its new one". Each old address has a block of new words; the blocks stand one after the other, in the old sequence. All of it
 -- is said over a technique, since K13 asks the same with memory guards; the call of K7 is plain.
-use Prim.Native.Nat.{ℕ, suc, ◌+◌, ◌-◌}
-use mathlib.Core.Bool.{Bool, true, false, cond, ◌&&◌}
-use mathlib.Core.List.{List, [], ◌∷◌, ◌++◌, map}
-use lib.ListN.{length, get_or}
-use lib.Dec.{eqb}
+use Rattle.std.specs.Prelude.{ℕ, suc, ◌+◌, ◌-◌, Bool, true, false, cond, ◌&&◌, List, [], ◌∷◌, ◌++◌, map, length, get_or, eqb}
 use Rattle.lists.specs.Search.{lowest, bit}
 use Rattle.isa.specs.declared.Instr.{Instr}
 use Rattle.isa.specs.declared.Technique.{Technique}

@@ -1,10 +1,7 @@
 -- Which bare code the rewriter turns away (document 02, K7), in this order: 6, 7, 8, 18, 9 and 10, "as the checkers answer them"; 20, 21
 -- and 22. 5 comes last, and is said where the answer is.
-use Prim.Native.Nat.{ℕ}
-use mathlib.Core.Bool.{Bool, false, ◌&&◌, ◌||◌}
-use mathlib.Core.Option.{Option, none, some}
-use mathlib.Core.List.{List, [], ◌∷◌}
-use lib.Dec.{ltb, leb}
+use Rattle.std.specs.Prelude.{ℕ, Bool, false, ◌&&◌, ◌||◌, List, [], ◌∷◌, ltb, leb}
+use Rattle.std.proofs.Math.Option.{Option, none, some}
 use Rattle.answers.specs.declared.Refusal.{Refusal}
 use Rattle.answers.specs.declared.Place.{Place}
 use Rattle.answers.specs.declared.Verdict.{Verdict}
@@ -13,7 +10,7 @@ use Rattle.isa.specs.declared.Instr.{Instr}
 use Rattle.isa.specs.declared.Technique.{Technique}
 use Rattle.isa.specs.Words.{named_by, fields_of}
 use Rattle.isa.specs.Instructions.{instr_at, is_kind, branch_target}
-use Rattle.conditions.specs.Verdicts.{Rule, rule_once, rule_per_address, first_broken, claim_rules}
+use Rattle.checker.specs.Verdicts.{Rule, rule_once, rule_per_address, first_broken, claim_rules}
 use Rattle.guarded.specs.Rewrite.{new_length}
 
 -- a field that is named, with r0, r1 or r2 in it

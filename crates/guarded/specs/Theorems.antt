@@ -1,11 +1,6 @@
 -- What is proved of guards put in for the installer (document 02, K7). `proofs/Theorems.antt` has the proofs.
-use Prim.Native.Nat.{ℕ, suc, ◌+◌, ◌-◌, ◌*◌, ◌≤◌, ◌<◌}
-use mathlib.Core.Path.{◌≡◌}
-use mathlib.Core.Logic.{◌⊎◌}
-use mathlib.Core.Bool.{true, false, ◌&&◌}
-use mathlib.Core.Option.{some}
-use mathlib.Core.List.{List, [], ◌∷◌, ◌++◌, map}
-use lib.ListN.{length, get_or}
+use Rattle.std.specs.Prelude.{ℕ, suc, ◌+◌, ◌-◌, ◌*◌, ◌≤◌, ◌<◌, ◌≡◌, ◌⊎◌, true, false, ◌&&◌, List, [], ◌∷◌, ◌++◌, map, length, get_or}
+use Rattle.std.proofs.Math.Option.{some}
 use Rattle.lists.specs.Search.{bit, count}
 use Rattle.answers.specs.declared.Verdict.{Verdict}
 use Rattle.answers.specs.Shape.{edges_shaped}
@@ -16,8 +11,8 @@ use Rattle.isa.specs.Instructions.{instr_at, is_jump, is_store, is_branch, branc
 use Rattle.graph.specs.Claim.{edge_count, jump_of, target_of, is_destination, id_of}
 use Rattle.rising.specs.Rising.{Rising}
 use Rattle.guards.specs.Sequences.{jump_guard, store_guard}
-use Rattle.conditions.specs.Verdicts.{verdict_of}
-use Rattle.conditions.specs.Conditions.{Listed, IsId, Graph}
+use Rattle.checker.specs.Verdicts.{verdict_of}
+use Rattle.checker.specs.Conditions.{Listed, IsId, Graph}
 use Rattle.guarded.specs.Rewrite.{guards_stores, body_size, map_of, new_length, filled, with_target, set_of, new_code, new_jump, new_edges, new_map}
 use Rattle.guarded.specs.Rules.{bare_verdict_of}
 
@@ -55,7 +50,7 @@ module _ (t : Technique) (bare : List ℕ) (n : ℕ) (edges values : List ℕ) w
     pub jump : (rs : ℕ) → instr_at bare a ≡ Instr.Jmp rs
         → Stand new_memory (body_start a)
         (map encode_of (filled (jump_guard t (new_length t bare n edges) (map_of t bare edges (id_of edges n a))) rs 0 0))
-    pub new_jump : (rs : ℕ) → instr_at bare a ≡ Instr.Jmp rs → body_start a + length (jump_guard t 0 0) ≡ new_jump t bare edges a + 1
+    pub jump_last : (rs : ℕ) → instr_at bare a ≡ Instr.Jmp rs → body_start a + length (jump_guard t 0 0) ≡ new_jump t bare edges a + 1
     -- so has a st, where the technique guards it
     pub store : (rd rs w : ℕ) → guards_stores t ≡ true → instr_at bare a ≡ Instr.St rd rs w
         → Stand new_memory (body_start a) (map encode_of (filled (store_guard (new_length t bare n edges) (length new_memory)) rd w rs))
@@ -85,7 +80,7 @@ module _ (t : Technique) (bare : List ℕ) (n : ℕ) (edges values : List ℕ) w
     pub last_illegal : get_or new_memory (new_length t bare n edges - 1) 0 ≡ all_bits_set
     -- 5. the claim follows, edge by edge in its sequence: each new edge is the image of the old one, "except that an edge starts at the new
     -- jmp itself"
-    pub edge_count : length (new_edges t bare edges) ≡ length edges
+    pub claim_length : length (new_edges t bare edges) ≡ length edges
     pub edge_from : (k : ℕ) → k < edge_count edges → jump_of (new_edges t bare edges) k ≡ new_jump t bare edges (jump_of edges k)
     pub edge_to : (k : ℕ) → k < edge_count edges → target_of (new_edges t bare edges) k ≡ map_of t bare edges (target_of edges k)
     -- both ways, as a relation

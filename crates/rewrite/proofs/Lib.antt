@@ -1,5 +1,0 @@
-pub mod TargetSets
-pub mod Moved
-pub mod Laying
-pub mod Bodies
-pub mod Verdicts
