@@ -14,6 +14,7 @@ use crate::entries::wide;
 use isa::{Kind, Technique, is_a, is_branch};
 
 // All blocks, and the illegal word.
+#[tactic(auto, using(guarded::proofs::Places::block_length, crate::proofs::Laying::put_none, crate::proofs::Laying::put_more, crate::proofs::Laying::end_put))]
 pub(crate) fn put_code(
     memory: &[u64],
     n: usize,
@@ -37,6 +38,7 @@ pub(crate) fn put_code(
 }
 
 // The block of the word at a: a label where it is a destination, and then what stands for the word.
+#[tactic(auto, using(crate::proofs::Bodies::room, crate::proofs::Bodies::body_room, crate::proofs::Bodies::block_put))]
 fn put_block(
     memory: &[u64],
     n: usize,
@@ -71,6 +73,7 @@ fn put_label(entries: &[u16; 2048], n: usize, owner: usize, at: usize, code: &mu
 }
 
 // "The word of label w is the number w."
+#[tactic(auto, unfolding(isa::specs::Words::word_of, isa::specs::Words::encode_of))]
 fn label_word(id: u16) -> u64
     ensures { result ≡ encode_of (Instr.Label id) }
 {
@@ -78,6 +81,7 @@ fn label_word(id: u16) -> u64
 }
 
 // What stands for the word at a, from `at` on: its guard, the word with its target moved, or the word itself.
+#[tactic(auto, using(crate::proofs::Moved::first_small, crate::proofs::Bodies::jump_id, crate::proofs::Bodies::jump_put, crate::proofs::Bodies::branch_put, crate::proofs::Bodies::other_put, crate::proofs::Bodies::jump_room, crate::proofs::Bodies::other_room))]
 fn put_body(
     memory: &[u64],
     n: usize,
@@ -127,6 +131,7 @@ fn put_guard(words: &[u64; 10], id: u64, jump: u64, at: usize, code: &mut [u64])
 }
 
 // A branch to w, led to where the block of w begins.
+#[tactic(auto, using(crate::proofs::Moved::branch_w, crate::proofs::Moved::target_low, crate::proofs::Moved::branch_moved))]
 fn moved(entries: &[u16; 2048], n: usize, word: u64) -> u64
     requires { (n ≤ 2048) × (is_branch (decode_of word) ≡ true) × (outside n (branch_target (decode_of word)) ≡ false) }
     ensures { result ≡ encode_of (with_target (decode_of word) (get_or entries.now (fields_of (decode_of word)).w 0)) }

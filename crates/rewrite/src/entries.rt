@@ -14,6 +14,7 @@ use crate::sets::{jump_of, target_of};
 use isa::{Kind, is_a};
 
 // Where each block begins, and the length of the new code. The sums stay below 7 times 2,048, so that 16 bits hold them.
+#[tactic(auto, using(crate::proofs::Laying::entry_none, crate::proofs::Laying::entry_more, crate::proofs::Laying::entry_all))]
 pub(crate) fn fill_entries(
     memory: &[u64],
     n: usize,
@@ -34,6 +35,7 @@ pub(crate) fn fill_entries(
     at + 1
 }
 
+#[tactic(auto, using(crate::proofs::TargetSets::destined, crate::proofs::TargetSets::bit_most))]
 fn block_size(memory: &[u64], n: usize, edges: &[u16], own: &[u16; 2048], a: usize) -> usize
     requires { (n ≤ length memory.now) × Owned edges.now n own.now × (a < n) }
     ensures { (result ≡ block_size Technique.Plain memory.now edges.now a) × (result ≤ 7) }
@@ -54,6 +56,7 @@ fn body_size(word: u64) -> usize
 }
 
 // The edges, in their sequence: from the last word of the jump's block to the first of the target's.
+#[tactic(auto, using(guarded::proofs::Claims::pair, crate::proofs::Laying::put_none, crate::proofs::Laying::entry_above, crate::proofs::Laying::edge_more, crate::proofs::Laying::put_all))]
 pub(crate) fn put_edges(
     memory: &[u64],
     n: usize,
@@ -76,6 +79,7 @@ pub(crate) fn put_edges(
 }
 
 // An entry for each bare address.
+#[tactic(auto, using(crate::proofs::Laying::put_none, crate::proofs::Laying::map_more, crate::proofs::Laying::put_all))]
 pub(crate) fn put_entries(
     memory: &[u64],
     n: usize,

@@ -26,6 +26,7 @@ pub enum Rewritten {
 
 // Puts the guarded code of the n words at the front of memory into `code`, its edges into `new_edges`, and for each of the n addresses
 // where its block begins into `map`.
+#[tactic(auto, using(crate::proofs::Verdicts::bare_of, crate::proofs::Verdicts::words_kept, crate::proofs::Verdicts::words_broken, crate::proofs::Verdicts::refused_put, crate::proofs::Verdicts::put_as))]
 pub fn rewrite(
     memory: &[u64],
     n: usize,
@@ -61,6 +62,7 @@ fn outcome(total: usize, edges: usize) -> Rewritten
 }
 
 // Number 22, and 5 after it.
+#[tactic(auto, using(lists::proofs::Tables::table_new, checker::proofs::Rules::no_rule, checker::proofs::Rules::broken_once, checker::proofs::Rules::kept_once, crate::proofs::Laying::table_grow, crate::proofs::Verdicts::laid_below, crate::proofs::Verdicts::refused_put, crate::proofs::Verdicts::put_as))]
 fn rewrite_bare(
     memory: &[u64],
     n: usize,
@@ -88,6 +90,7 @@ fn rewrite_bare(
     )
 }
 
+#[tactic(auto, using(crate::proofs::Verdicts::ready_below, crate::proofs::Verdicts::short_put, crate::proofs::Verdicts::places_long, crate::proofs::Verdicts::all_put))]
 fn put_guarded(
     memory: &[u64],
     n: usize,

@@ -6,6 +6,7 @@ ghost use Rattle.graph.specs.Passes.{Within, Is, Owned};
 ghost use Rattle.rewrite.specs.Inside.{OneId};
 
 // The lowest target of each jump, or n where it has none.
+#[tactic(auto, using(lists::proofs::Tables::table_as, crate::proofs::TargetSets::id_none, crate::proofs::TargetSets::id_step, crate::proofs::TargetSets::id_all))]
 pub(crate) fn lowest_targets(edges: &[u16], n: usize, ids: &mut [u16; 2048])
     requires { Within edges.now n × Table ids.old n (λ _. n) }
     ensures { Table ids.new n (id_of edges.now n) }
@@ -22,6 +23,7 @@ pub(crate) fn lowest_targets(edges: &[u16], n: usize, ids: &mut [u16; 2048])
 }
 
 // For each destination the ID of its set, and for every other address n.
+#[tactic(auto, using(crate::proofs::TargetSets::owning_none, crate::proofs::TargetSets::owning_more, crate::proofs::TargetSets::owning_all))]
 pub(crate) fn put_owners(edges: &[u16], n: usize, ids: &[u16; 2048], own: &mut [u16; 2048])
     requires { Within edges.now n × Table ids.now n (id_of edges.now n) × Table own.old n (λ _. n) × OneId edges.now n }
     ensures { Owned edges.now n own.new }
