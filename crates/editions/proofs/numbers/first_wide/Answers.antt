@@ -1,4 +1,4 @@
-use Rattle.std.proofs.Common.{sym, ◌∙◌, arith, rules}
+use Rattle.std.proofs.Common.{sym, ◌∙◌, arith}
 use Rattle.lists.proofs.Search.{lowest_at, lowest_none, clean_more}
 use Rattle.editions.proofs.Converting.{edge_wide}
 use Rattle.editions.proofs.numbers.first_wide.Goals as goal
