@@ -18,6 +18,7 @@ use isa::Technique;
 use machine::Ending;
 use parcel::{Edition, Read};
 
+#[tactic(auto, using(crate::proofs::Words::legal_numbers, crate::proofs::Words::illegal_numbers))]
 pub fn pg_decode(word: u64, place: &mut [u32]) -> u32
     ensures { DecodeCall word place.old result place.new }
 {
@@ -84,13 +85,7 @@ pub fn pg_write_register(state: &mut [u64], register: u64, word: u64) -> u32
     written_number(bus::write_register_lent(state, register, word))
 }
 
-pub fn pg_check(
-    technique: u8,
-    memory: &[u64],
-    n: usize,
-    edges: &[u16],
-    place: &mut [u64],
-) -> u32
+pub fn pg_check(technique: u8, memory: &[u64], n: usize, edges: &[u16], place: &mut [u64]) -> u32
     ensures { CheckCall technique memory.now n edges.now place.old result place.new }
 {
     if place.len() < 2 {
@@ -116,6 +111,7 @@ pub fn pg_read_parcel(
     put_read(counts, parcel::read_parcel(parcel, memory, edges))
 }
 
+#[tactic(auto, using(crate::proofs::Parcels::write_done))]
 pub fn pg_write_parcel(
     memory: &[u64],
     n: usize,
@@ -129,6 +125,7 @@ pub fn pg_write_parcel(
 }
 
 // The same, with the place of a refusal put down.
+#[tactic(auto, using(crate::proofs::Parcels::placed_short, crate::proofs::Parcels::placed))]
 pub fn pg_write_parcel_placed(
     memory: &[u64],
     n: usize,
@@ -148,6 +145,7 @@ pub fn pg_write_parcel_placed(
 }
 
 // Writes, and puts down how many bytes were written.
+#[tactic(auto, using(parcel::proofs::Runs::over_front, crate::proofs::Parcels::count_short, crate::proofs::Parcels::counted))]
 fn write_counted(
     memory: &[u64],
     n: usize,

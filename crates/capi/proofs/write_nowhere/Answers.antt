@@ -1,0 +1,6 @@
+use mathlib.Core.Path.{refl}
+use Rattle.capi.proofs.Parcels.{nowhere}
+use Rattle.capi.proofs.write_nowhere.Goals as goal
+
+pub returns : goal.returns
+returns c = nowhere c.args.memory.now c.args.n c.args.edges.now _ refl c.write_parcel.ensures
