@@ -69,12 +69,7 @@ pub(crate) fn print(
     Ok(())
 }
 
-fn print_one(
-    rt: &impl Print,
-    byte: u8,
-    counts: &[u64; 32],
-    place: usize,
-) -> io::Result<usize> {
+fn print_one(rt: &impl Print, byte: u8, counts: &[u64; 32], place: usize) -> io::Result<usize> {
     if byte != b'#' {
         rt.write_all(&[byte])?;
         return Ok(place);

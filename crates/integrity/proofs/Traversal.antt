@@ -48,6 +48,7 @@ all_append Claim [] ys h k = k
 all_append Claim (x ∷ xs) ys h k = (h.0, all_append Claim xs ys h.1 k)
 
 all_member : (Claim : Event → Type 0) (xs : List Event) (e : Event) → All Claim xs → Memᴰ e xs → Claim e
+all_member Claim [] e h m = elim m [ ]
 all_member Claim (x ∷ xs) e h (Memᴰ.head q) = rw q h.0
 all_member Claim (x ∷ xs) e h (Memᴰ.tail m) = all_member Claim xs e h.1 m
 

@@ -73,6 +73,7 @@ fn put_accepted(line: &mut [u8; 80], code: usize, edges: usize, words: usize) ->
     put_byte(line, after_words, b'\n')
 }
 
+#[tactic(auto, using(crate::proofs::Text::place_length))]
 fn put_refused(line: &mut [u8; 80], why: Refusal, place: Place) -> usize
     ensures { Puts (line_of (Answer.Refused why place)) line.old 0 result line.new }
 {
@@ -93,6 +94,7 @@ fn put_place(line: &mut [u8; 80], at: usize, place: Place) -> usize
     }
 }
 
+#[tactic(auto, using(crate::proofs::Text::puts_then))]
 fn put_at(line: &mut [u8; 80], at: usize, x: usize) -> usize
     requires { at ≤ 50 }
     ensures { Puts (place_text (Place.Address x)) line.old at result line.new }
@@ -102,6 +104,7 @@ fn put_at(line: &mut [u8; 80], at: usize, x: usize) -> usize
 }
 
 // Highest digit first: all but the last digit, then the last.
+#[tactic(auto, using(crate::proofs::Text::decimal_short, crate::proofs::Text::tenth_length))]
 fn put_decimal(line: &mut [u8; 80], at: usize, x: usize) -> usize
     requires { at ≤ 60 }
     ensures { PutsNumber x line.old at result line.new }
@@ -142,6 +145,7 @@ fn put_refused_text(line: &mut [u8; 80]) -> usize
     8
 }
 
+#[tactic(auto, using(crate::proofs::Text::puts_then))]
 fn put_at_text(line: &mut [u8; 80], at: usize) -> usize
     requires { at ≤ 70 }
     ensures { Puts at_text line.old at result line.new }

@@ -33,6 +33,7 @@ pub struct Answer {
 }
 
 // The verdict on a program and, where it is accepted, its figures. A refused program has zeros and no freedom.
+#[tactic(auto, using(crate::proofs::Held::held, crate::proofs::Sets::readable, crate::proofs::Sets::figures_are, crate::proofs::Reports::accepted_report, crate::proofs::Reports::refused_report_lem))]
 pub fn report(technique: Technique, memory: &[u64], n: usize, edges: &[u16]) -> Answer
     ensures { result ≡ report_of technique memory.now n edges.now }
 {
@@ -49,6 +50,7 @@ pub fn report(technique: Technique, memory: &[u64], n: usize, edges: &[u16]) -> 
 }
 
 // The same of a parcel: read, and then checked. The largest parcel has 2,048 code words, 2,048 edges and 2,048 data words.
+#[tactic(auto, using(parcel::proofs::Places::memory_room, parcel::proofs::Places::edges_room, crate::proofs::Reports::refused_parcel, crate::proofs::Reports::read_report))]
 pub fn report_parcel(technique: Technique, parcel: &[u8]) -> Answer
     ensures { result ≡ parcel_report technique parcel.now }
 {

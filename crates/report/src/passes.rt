@@ -19,6 +19,7 @@ struct Sums {
 }
 
 // The edges of an accepted program are distinct as they are listed.
+#[tactic(auto, using(lists::proofs::Tables::table_new, crate::proofs::Sets::summable, crate::proofs::Sets::figures_read_lem))]
 pub(crate) fn figures(memory: &[u64], n: usize, listed: usize) -> Figures
     requires { Readable memory.now n × (listed ≤ 65535) }
     ensures { result ≡ figures_read memory.now n listed }
@@ -37,6 +38,7 @@ pub(crate) fn figures(memory: &[u64], n: usize, listed: usize) -> Figures
 }
 
 // Counts the words by their kinds, the labels by their numbers, and the jumps by the IDs of their sets.
+#[tactic(auto, using(lists::proofs::Tables::table_as, crate::proofs::ByKind::kinds_none, crate::proofs::Sums::times_none, crate::proofs::Sums::times_room, crate::proofs::Sums::times_step))]
 fn count_words(
     memory: &[u64],
     n: usize,
@@ -58,6 +60,7 @@ fn count_words(
 }
 
 // Counts the word at a, after those before it.
+#[tactic(auto, using(crate::proofs::ByKind::row_count, crate::proofs::ByKind::kind_max, crate::proofs::ByKind::kinds_step))]
 fn count_kind(kinds: &mut [u16; 10], memory: &[u64], n: usize, a: usize)
     requires { Sized memory.now n × (a < n) × (kinds.old ≡ kinds_of memory.now a) }
     ensures { kinds.new ≡ kinds_of memory.now (a + 1) }
@@ -85,6 +88,7 @@ fn row_of(kind: Kind) -> usize
 }
 
 // The number of the label at a, n where none is.
+#[tactic(auto, using(isa::proofs::ByKind::no_label, isa::proofs::ByKind::label_low))]
 fn label_at(memory: &[u64], n: usize, a: usize) -> usize
     requires { (a < n) × (n ≤ length memory.now) }
     ensures { result ≡ label_at memory.now n a }
@@ -120,6 +124,7 @@ fn count_at(xs: &mut [u16; 2048], n: usize, s: usize)
 }
 
 // A set has as many targets as there are labels with its ID.
+#[tactic(auto, using(lists::proofs::Counts::count_none, lists::proofs::Counts::count_more, lists::proofs::Counts::count_max, crate::proofs::Sums::highest_none, crate::proofs::Sums::highest_more))]
 fn sum_up(labels: &[u16; 2048], jumps: &[u16; 2048], n: usize) -> Sums
     requires { Summable labels.now jumps.now n }
     ensures { Summed labels.now jumps.now n result }

@@ -75,6 +75,7 @@ pub fn add_parcel(totals: Totals, technique: Technique, parcel: &[u8]) -> Additi
 }
 
 // Adds what a report tells of a program or a parcel.
+#[tactic(auto, unfolding(crate::specs::Totals::add_report))]
 pub fn add_report(totals: Totals, report: Answer) -> Addition
     ensures { result ≡ add_report totals report }
 {
