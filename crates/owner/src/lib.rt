@@ -17,6 +17,7 @@ use lists::both;
 use report::{Answer, Figures, Freedom};
 use totals::{Added, Addition, Largest, Totals};
 
+#[tactic(auto, using(crate::proofs::Figures::long_enough, crate::proofs::Figures::report_short))]
 pub fn pg_report(
     technique: u8,
     memory: &[u64],
@@ -34,12 +35,8 @@ pub fn pg_report(
     answer_report(made, figures, place)
 }
 
-pub fn pg_report_parcel(
-    technique: u8,
-    parcel: &[u8],
-    figures: &mut [u64],
-    place: &mut [u64],
-) -> u32
+#[tactic(auto, using(crate::proofs::Figures::long_enough, crate::proofs::Figures::report_short))]
+pub fn pg_report_parcel(technique: u8, parcel: &[u8], figures: &mut [u64], place: &mut [u64]) -> u32
     ensures { ReportCall (parcel_report (technique_of technique) parcel.now) figures.old place.old result figures.new place.new }
 {
     if are_short(figures.len(), 14, place.len()) {
@@ -66,12 +63,7 @@ pub fn pg_add_report(
     answer_addition(made, sums, place)
 }
 
-pub fn pg_add_parcel(
-    technique: u8,
-    parcel: &[u8],
-    sums: &mut [u64],
-    place: &mut [u64],
-) -> u32
+pub fn pg_add_parcel(technique: u8, parcel: &[u8], sums: &mut [u64], place: &mut [u64]) -> u32
     ensures { AddCall (parcel_report (technique_of technique) parcel.now) sums.old place.old result sums.new place.new }
 {
     if are_short(sums.len(), 6, place.len()) {
@@ -92,6 +84,7 @@ fn are_short(have: usize, needed: usize, place: usize) -> bool
 }
 
 // The answer to a report, its figures and its place put down.
+#[tactic(auto, using(crate::proofs::Figures::report_done))]
 fn answer_report(made: Answer, figures: &mut [u64], place: &mut [u64]) -> u32
     requires { (14 ≤ length figures.old) × (2 ≤ length place.old) }
     ensures { ReportCall made figures.old place.old result figures.new place.new }
@@ -145,6 +138,7 @@ fn put_accepted(place: &mut [u64], verdict: Verdict, figures: Figures)
 }
 
 // The fourteen numbers of a program, at the front of the place.
+#[tactic(auto, using(crate::proofs::Figures::figures_put))]
 fn put_figures(place: &mut [u64], figures: Figures)
     requires { 14 ≤ length place.old }
     ensures { place.new ≡ put_over (figure_numbers figures) place.old }
@@ -158,6 +152,7 @@ fn put_figures(place: &mut [u64], figures: Figures)
     place[13] = wide32(freedom_possible(freedom));
 }
 
+#[tactic(auto, using(crate::proofs::Figures::one_more, crate::proofs::Figures::none_left))]
 fn put_kinds(place: &mut [u64], kinds: [u16; 10])
     requires { 10 ≤ length place.old }
     ensures { place.new ≡ sets place.old 0 kinds }
