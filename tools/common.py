@@ -1,7 +1,6 @@
 """What the scripts of this folder share: usage, the repository's top, its crates, and the log of a gate."""
 import collections
 import os
-import pathlib
 import re
 import signal
 import subprocess
@@ -26,50 +25,48 @@ def at_top():
 
 
 def crates():
-    """The crates that crates.txt lists, in its order."""
+    """The crates that crates.txt lists, in its order (a line is `name: ..` or `name staticlib: ..`)."""
     lines = (line.split("#")[0] for line in open("crates.txt"))
-    return [line.split(":")[0].strip() for line in lines if ":" in line]
+    return [line.split(":")[0].split()[0] for line in lines if ":" in line]
 
 
-def crate(name):
-    """The folder of a crate."""
-    if name not in crates():
-        sys.exit("no crate '%s' in crates.txt; it has: %s" % (name, " ".join(crates())))
-    return pathlib.Path("crates") / name
+class Gate:
+    """What a log of `rt ci` says: it has no seconds but those of `time`, if the gate was run under it."""
 
-
-def rt(*words, folder="."):
-    """Runs rt in a folder, and gives its exit status and what it said."""
-    try:
-        done = subprocess.run(
-            ["rt", *words], cwd=folder, stdout=subprocess.PIPE, stderr=subprocess.STDOUT, text=True, errors="replace"
-        )
-    except FileNotFoundError:
-        sys.exit("no rt on the path: the Rattle toolchain is needed")
-    return done.returncode, done.stdout
-
-
-def gate_log(path):
-    """Of a log of `rt ci`: seconds per crate proved, per edit of each crate, per program run; what failed; how it ended."""
-    try:
-        text = open(path, errors="replace").read()
-    except OSError as error:
-        sys.exit("%s: %s" % (path, error.strerror))
-    proved, edits, ran, wrong = {}, collections.defaultdict(dict), {}, []
-    for line in text.splitlines():
-        if not line.startswith("rt: "):
-            continue
-        crate_proved = re.match(r"rt: (\S+) proved \((\d+) s\)", line)
-        edit = re.match(r"rt: must-fail ([^/]+)/(\S+): refused.*?(\d+) s\)", line)
-        program = re.match(r"rt: (\S+) ran\b.*\((\d+) s\)", line)
-        if crate_proved:
-            proved[crate_proved.group(1)] = int(crate_proved.group(2))
-        elif edit:
-            edits[edit.group(1)][edit.group(2)] = int(edit.group(3))
-        elif program:
-            ran[program.group(1)] = int(program.group(2))
-        elif re.search(r"NOT PROVED|NOT REFUSED|BAD EDIT|FAILED|in no crate", line):
-            wrong.append(line)
-    ended = re.search(r"^\d+ passed, \d+ failed$", text, re.M)
-    clock = re.search(r"^real\s+(\S+)$", text, re.M)  # where the gate was run under `time`
-    return proved, edits, ran, wrong, ended and ended.group(0) + (", in " + clock.group(1) if clock else "")
+    def __init__(self, path):
+        try:
+            text = open(path, errors="replace").read()
+        except OSError as error:
+            sys.exit("%s: %s" % (path, error.strerror))
+        self.proved, self.functions, self.ran, self.wrong = {}, collections.Counter(), collections.Counter(), []
+        self.edits, self.kept_edits = collections.defaultdict(dict), collections.Counter()
+        section = None
+        for line in text.splitlines():
+            begun = re.match(r"== (\w+)", line)
+            if begun:
+                section = begun.group(1)
+            elif section and re.match(r"fn .*: proved$", line):
+                self.functions[section] += 1
+            if not line.startswith("rt: "):
+                continue
+            done = re.match(r"rt: (\w+) (proved|is kept: )", line)
+            edit = re.match(r"rt: must-fail (\w+)/(\S+?)\.edit: refused, as it must be(.*)", line)
+            earlier = re.match(r"rt: (\w+): (\d+) of its \d+ must-fail edits were tried by an earlier run", line)
+            program = re.match(r"rt: (\w+) ran\b", line)
+            if done:
+                self.proved[done.group(1)] = "now" if done.group(2) == "proved" else "kept"
+            elif edit:
+                why = edit.group(3)
+                weak = why.startswith(" (only")  # refused for a name that is gone, or by a limit
+                self.edits[edit.group(1)][edit.group(2)] = (weak, why.lstrip(" :"))
+            elif earlier:
+                self.kept_edits[earlier.group(1)] = int(earlier.group(2))
+            elif program:
+                self.ran[program.group(1)] += 1
+            elif re.search(r"NOT PROVED|NOT REFUSED|NOT TRIED|BAD EDIT|FAILED", line):
+                self.wrong.append(line)
+        if not self.proved:
+            sys.exit("%s: no line 'rt: NAME proved' or 'rt: NAME is kept': is it a log of rt ci?" % path)
+        ended = re.findall(r"^\d+ passed, \d+ failed.*$", text, re.M)
+        clock = re.search(r"^real\s+(\S+)$", text, re.M)  # where the gate was run under `time`
+        self.ended = ended and ended[-1] + (", in " + clock.group(1) if clock else "")

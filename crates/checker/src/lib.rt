@@ -29,6 +29,7 @@ use unguarded::{first_bare_jump, first_bare_store};
 // Whether the n words of code at the front of memory, with these edges, keep the technique's conditions, and if not, the
 // number and the place of the first fault.
 #[tactic(auto, unfolding(crate::specs::Verdicts::verdict_of))]
+#[inline(never)]
 pub fn check(technique: Technique, memory: &[u64], n: usize, edges: &[u16]) -> Verdict
     ensures { result ≡ verdict_of technique memory.now n edges.now }
 {

@@ -110,6 +110,10 @@ module _ (w v : ℕ) (s p : List ℕ) {n e d : ℕ} (below : AllBelow 256 s) (t 
       ∙ over_front (x ++ (y ++ z)) p (omega (arith, whole_long))
       ∙ ap (λ (l : List ℕ). put_over l p) (sym (parts code edges words v) ∙ sym (ap (bytes_for v) t.is))
 
+-- how long bytes are that were counted
+pub counted_long : (w : ℕ) (s : List ℕ) {n e d : ℕ} → Read.Counts n e d ≡ counts_of (read_of w s) → length s ≡ 12 + n * 8 + e * (2 * w) + d * 8
+counted_long w s h = (whole w s (sym h)).long
+
 -- ---- the answers
 
 -- the reader's refusal is handed on

@@ -50,6 +50,7 @@ pub fn check_wide(technique: Technique, memory: &[u64], n: usize, edges: &[u32])
     checker::check(technique, memory, n, &low[..count])
 }
 
+#[tactic(auto, using(crate::proofs::Converted::counted_long))]
 fn widen_counted(parcel: &[u8], code: usize, edges: usize, words: usize, wide: &mut [u8]) -> Written
     requires { R.Read.Counts code edges words ≡ counts_of (read_of 2 parcel.now) }
     ensures { WidenedSo parcel.now wide.old result wide.new }
@@ -65,6 +66,7 @@ fn widen_counted(parcel: &[u8], code: usize, edges: usize, words: usize, wide: &
     Written::Bytes(front + edges * 8 + back)
 }
 
+#[tactic(auto, using(crate::proofs::Converted::counted_long))]
 fn narrow_counted(
     wide: &[u8],
     code: usize,

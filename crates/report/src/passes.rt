@@ -20,6 +20,7 @@ struct Sums {
 
 // The edges of an accepted program are distinct as they are listed.
 #[tactic(auto, using(lists::proofs::Tables::table_new, crate::proofs::Sets::summable, crate::proofs::Sets::figures_read_lem))]
+#[inline(never)]
 pub(crate) fn figures(memory: &[u64], n: usize, listed: usize) -> Figures
     requires { Readable memory.now n × (listed ≤ 65535) }
     ensures { result ≡ figures_read memory.now n listed }

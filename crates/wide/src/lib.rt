@@ -64,12 +64,7 @@ pub fn pg_write_wide_parcel(
     put_written(written, count, place)
 }
 
-pub fn pg_widen(
-    parcel: &[u8],
-    wide: &mut [u8],
-    count: &mut [u64],
-    place: &mut [u64],
-) -> u32
+pub fn pg_widen(parcel: &[u8], wide: &mut [u8], count: &mut [u64], place: &mut [u64]) -> u32
     ensures { PutCall (λ short. widened_of short (read_of 2 parcel.now)) (bytes_for 4 (read_of 2 parcel.now)) wide.old count.old place.old result wide.new count.new place.new }
 {
     let room = room_of(count.len(), place.len(), wide.len());
@@ -77,12 +72,7 @@ pub fn pg_widen(
     put_written(written, count, place)
 }
 
-pub fn pg_narrow(
-    wide: &[u8],
-    parcel: &mut [u8],
-    count: &mut [u64],
-    place: &mut [u64],
-) -> u32
+pub fn pg_narrow(wide: &[u8], parcel: &mut [u8], count: &mut [u64], place: &mut [u64]) -> u32
     ensures { PutCall (λ short. narrowed_of short (read_of 4 wide.now)) (bytes_for 2 (read_of 4 wide.now)) parcel.old count.old place.old result parcel.new count.new place.new }
 {
     let room = room_of(count.len(), place.len(), parcel.len());

@@ -1,0 +1,9 @@
+use Rattle.std.proofs.Common.{◌*◌, ◌-◌}
+use Rattle.editions.proofs.Converting.{Converting}
+use Rattle.editions.proofs.numbers.widen_edges.Given as goal
+
+abbrev pub invariant-loop-k : goal.invariant-loop-k
+invariant-loop-k l = Converting 2 4 l.s l.at (l.edges * 2) l.initial.to l.start l.to (l.k * 2)
+
+abbrev pub decreases-loop-k : goal.decreases-loop-k
+decreases-loop-k l = l.edges - l.k

@@ -1,0 +1,7 @@
+use Rattle.parcel.specs.Parcel.{read_of}
+use Rattle.wide.proofs.Calls.{careful_widen, put_done}
+use Rattle.wide.proofs.pg_widen.Goals as goal
+
+pub returns : goal.returns
+returns c =
+    put_done (careful_widen (read_of 2 c.args.parcel.now)) c.room_of-room.ensures c.widen-written.ensures.answers c.widen-written.ensures.bytes c.put_written.ensures
