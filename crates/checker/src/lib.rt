@@ -38,6 +38,7 @@ pub fn check(technique: Technique, memory: &[u64], n: usize, edges: &[u16]) -> V
 
 // The rules that speak of memory and graph alone, whatever the code's labels and guards: 6, 7, 8, 18, 9 and 10.
 #[tactic(auto, unfolding(crate::specs::Verdicts::claim_verdict_of))]
+#[inline(never)]
 pub fn check_claim(memory: &[u64], n: usize, edges: &[u16]) -> Verdict
     ensures { result ≡ claim_verdict_of memory.now n edges.now }
 {

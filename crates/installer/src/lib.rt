@@ -10,8 +10,8 @@ use answers::Place;
 use capi::put_place;
 use rewrite::Rewritten;
 
-#[unsafe(no_mangle)]
-pub extern "C" fn pg_rewrite(
+#[tactic(auto, using(crate::proofs::Calls::room_fits))]
+pub fn pg_rewrite(
     memory: &[u64],
     n: usize,
     edges: &[u16],
