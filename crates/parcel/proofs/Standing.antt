@@ -1,5 +1,5 @@
 -- Where a reader stands as it goes along a parcel, and that what the three counts come to at the end is what the parcel holds.
-use mathlib.Core.Path.{◌≡◌, refl, sym, ap, ap₂, ◌∙◌}
+use mathlib.Core.Path.{◌≡◌, refl, sym, ap, ap₂, ◌∙◌, subst}
 use mathlib.Core.List.{List}
 use Prim.Native.Nat.{ℕ, ◌+◌, ◌*◌, ◌/◌, ◌≤◌}
 use native.Mathlib.Omega.{arith}
@@ -31,6 +31,9 @@ end_within size low at s (Count.Items k) e h = section_end size low s at (sym e)
 end_within size low at s (Count.Refused why) e h = h
 
 module _ {s : Bor (List ℕ)} {r : Reader} {at : ℕ} (t : Stands s r at) where
+  pub inside : r.at ≤ length r.bytes.now
+  inside = subst (λ (x : Bor (List ℕ)). r.at ≤ length x.now) (sym t.of) (subst (λ (m : ℕ). m ≤ length s.now) (sym t.there) t.within)
+
   pub bytes_after : (n : ℕ) → n + r.at ≡ length r.bytes.now → n + at ≡ length s.now
   bytes_after n e = ap (λ (m : ℕ). n + m) (sym t.there) ∙ e ∙ ap (λ (x : Bor (List ℕ)). length x.now) t.of
 
@@ -39,6 +42,11 @@ module _ {s : Bor (List ℕ)} {r : Reader} {at : ℕ} (t : Stands s r at) where
     count_there e = e ∙ ap₂ (λ (m : ℕ) (x : Bor (List ℕ)). count_of size low (drop m x.now)) t.there t.of
 
     module _ (e : c ≡ count_of size low (drop at s.now)) where
+      pub can_pass : end_of size r.at c ≤ length r.bytes.now
+      can_pass =
+          subst (λ (x : Bor (List ℕ)). end_of size r.at c ≤ length x.now) (sym t.of)
+          (subst (λ (m : ℕ). end_of size m c ≤ length s.now) (sym t.there) (end_within size low at s.now c e t.within))
+
       pub passes : {r' : Reader} → (r'.bytes ≡ r.bytes) × (r'.at ≡ end_of size r.at c) → Stands s r' (end_of size at c)
       passes m = record {
         of = m.0 ∙ t.of;

@@ -2,7 +2,7 @@
 use mathlib.Core.Path.{◌≡◌, refl, sym, ap, subst, ◌∙◌}
 use mathlib.Core.Bool.{Bool, true, false, cond, ◌||◌}
 use mathlib.Core.List.{List, [], ◌++◌, append-nil}
-use Prim.Native.Nat.{ℕ}
+use Prim.Native.Nat.{ℕ, ◌≤◌}
 use native.Mathlib.Omega.{arith}
 use lib.Dec.{ltb}
 use lib.ListN.{length, take, drop}
@@ -121,3 +121,8 @@ careful_narrow (holds code edges words) = go (ltb (first_wide edges) (edge_count
     go true e = record { why = Refusal.EdgeTooWide; at = Place.Edge (first_wide edges); refuses = rw e; nowhere = nowhere }
     go false e = record { why = Refusal.PlaceTooShort; at = Place.Nowhere; refuses = rw e; nowhere = nowhere }
 careful_narrow (refused why) = record { why = why; at = Place.Nowhere; refuses = refl; nowhere = refl }
+
+-- what may be used is there
+pub room_fits : (b : Bool) (len : ℕ) {room : ℕ} → room ≡ cond b 0 len → room ≤ len
+room_fits true len e = omega (arith, e)
+room_fits false len e = omega (arith, e)
