@@ -63,6 +63,7 @@ fn outcome(total: usize, edges: usize) -> Rewritten
 
 // Number 22, and 5 after it.
 #[tactic(auto, using(lists::proofs::Tables::table_new, checker::proofs::Rules::no_rule, checker::proofs::Rules::broken_once, checker::proofs::Rules::kept_once, crate::proofs::Laying::table_grow, crate::proofs::Verdicts::laid_below, crate::proofs::Verdicts::refused_put, crate::proofs::Verdicts::put_as))]
+#[inline(never)]
 fn rewrite_bare(
     memory: &[u64],
     n: usize,
