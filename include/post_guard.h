@@ -2,8 +2,8 @@
  *
  * Build the library with `tools/library` and link target/staticlib/libpost_guard.a. It needs nothing but memcpy, memmove and memset.
  * Every call is proved to meet its contract, which is in crates/capi/src/lib.rt; for figures and totals in
- * crates/owner/src/lib.rt, for the second edition and the converters in crates/wide/src/lib.rt. This page says the same in
- * plain words.
+ * crates/owner/src/lib.rt, for the second edition and the converters in crates/wide/src/lib.rt, for guards that are put in in
+ * crates/installer/src/lib.rt. This page says the same in plain words.
  * docs/REFERENCE.md has the rest: instructions, steps, what the check asks, the parcel, and for each number what to do about it.
  *
  * Common to all calls:
@@ -13,8 +13,8 @@
  *   all a caller owes: every number is allowed everywhere.
  * - A call changes nothing but what its comment says, and nothing in a place past what it puts there. Where a call is
  *   refused, nothing is changed but what it reports: the count of pg_run (with PG_SHAPE), and the place of pg_check,
- *   pg_write_parcel_placed, pg_check_wide, pg_write_wide_parcel, pg_widen, pg_narrow, pg_report, pg_report_parcel,
- *   pg_add_report and pg_add_parcel. The last two also count the refused parcel in totals[0].
+ *   pg_write_parcel_placed, pg_check_wide, pg_write_wide_parcel, pg_widen, pg_narrow, pg_rewrite, pg_report,
+ *   pg_report_parcel, pg_add_report and pg_add_parcel. The last two also count the refused parcel in totals[0].
  * - Calls keep nothing between them and may run at the same time on different places.
  *
  * A state is PG_STATE_WORDS words: r0 to r31, then the pc. Only those of the place are read or written.
@@ -24,6 +24,7 @@
  * A parcel has two editions: an edge's numbers have 16 bits in the first and 32 bits in the second, and all else is alike.
  * pg_check_wide, pg_read_wide_parcel and pg_write_wide_parcel are for the second; pg_widen and pg_narrow convert; every other
  * call is for the first. The bytes do not say which edition they are.
+ * Bare code has no labels and no guards: pg_rewrite puts them in. Every other call takes code as it stands.
  * Figures are PG_FIGURES numbers and totals PG_TOTALS numbers, as pg_report and pg_add_report say.
  * A technique is PG_PLAIN, or PG_MEMORY_GUARDS (any number but 0 means that one). */
 #ifndef POST_GUARD_H
@@ -76,7 +77,8 @@ extern "C" {
 /* Refusals: why a call is turned away. 1 to 4 come from the calls that read a parcel (pg_read_parcel, pg_read_wide_parcel,
  * pg_widen, pg_narrow, pg_report_parcel and pg_add_parcel), 7 to 15 from those that check a program (pg_check, pg_check_wide,
  * pg_report, pg_add_report, pg_report_parcel and pg_add_parcel), 18 from these, which test it after 8 and before 9, and from
- * those that write a program (pg_write_parcel, pg_write_parcel_placed and pg_write_wide_parcel), 19 from pg_narrow alone. */
+ * those that write a program (pg_write_parcel, pg_write_parcel_placed and pg_write_wide_parcel), 19 from pg_narrow alone, and
+ * 20 to 22 from pg_rewrite alone, which tests 7, 8, 18, 9 and 10 before them. */
 #define PG_COUNT_MISSING 1       /* fewer than four bytes are left for a count */
 #define PG_COUNT_LIMIT 2         /* a count breaks its section's limits */
 #define PG_ITEMS_MISSING 3       /* the bytes for a section's items are not all there */
@@ -96,6 +98,9 @@ extern "C" {
 #define PG_NOT_REGISTER 17       /* a bus write names a register outside r3 to r31 */
 #define PG_EDGE_NOT_RISING 18    /* this edge is not above the one before it, by jump address, then by target */
 #define PG_EDGE_TOO_WIDE 19      /* this edge has an address above 65535: the first edition has no room for it */
+#define PG_LABEL_OR_RESERVED 20  /* bare code has a label, or a word that names r0, r1 or r2, at this address */
+#define PG_BRANCH_OUT 21         /* this bgt or jd leads out of the bare code */
+#define PG_RESULT_TOO_LONG 22    /* with its guards the code has more than PG_MAX_CODE words */
 
 /* What else became of a parcel that was to be added to totals. pg_add_report and pg_add_parcel answer them. */
 #define PG_WITHOUT_JUMPS 256 /* accepted, but without jumps: passed over */
@@ -205,6 +210,30 @@ uint32_t pg_widen(const uint8_t *parcel, size_t parcel_len, uint8_t *wide, size_
  * the place. */
 uint32_t pg_narrow(const uint8_t *wide, size_t wide_len, uint8_t *parcel, size_t parcel_len, uint64_t *count, size_t count_len,
                    uint64_t *place, size_t place_len);
+
+/* Puts labels and plain guards into bare code: new code into code, its edges into new_edges, and into map for each address of
+ * the bare code its new one. What comes out is accepted by pg_check, plain, with as many data words after it as the bare code
+ * has.
+ *
+ * Each bare address has a block of new words, in the sequence of the addresses. Where it is a destination, the target of an
+ * edge, the block begins with a label, which holds the new address of the lowest target of the jumps that lead there. Then a
+ * jmp becomes the six words of its guard, ending in jmp r0; a bgt or jd gets the new address of its target; every other word
+ * stays as it is, an illegal one too. After the last block comes one illegal word. So the new code has n words, five more for
+ * each jmp, one more for each destination, and one: at most PG_MAX_CODE.
+ * map[a] is where the block of a begins: at its label, its word or the first word of its guard. The edges stay in their
+ * sequence: one from a to b then starts at the new jmp, the last word of the block of a, and ends at map[b].
+ * The data words are only counted. Put them directly after the new code: they have other addresses there. Values are the
+ * caller's to map: a movi, a data word or a register that holds an address of the bare program holds the old one still.
+ *
+ * Answers PG_OK, and puts the count of new code words into counts[0] and that of edge numbers, which is edges_len, into
+ * counts[1]; 6, 7, 8, 18, 9 or 10, in this sequence, as pg_check answers them for the bare code; then PG_LABEL_OR_RESERVED,
+ * with 2 and the lowest address of a label or of a word that names r0, r1 or r2 in the place; PG_BRANCH_OUT, with 2 and the
+ * lowest address of a bgt or jd whose target is n or more; PG_RESULT_TOO_LONG; or PG_PLACE_TOO_SHORT where code (below the
+ * new code words), new_edges (below edges_len), map (below n), counts (below 2) or place (below 2) is too short, tested last.
+ * Where place_len is 2 or more, the place is put for every answer, as by pg_check: 0 and 0 where there is none. */
+uint32_t pg_rewrite(const uint64_t *memory, size_t memory_len, size_t n, const uint16_t *edges, size_t edges_len,
+                    uint64_t *code, size_t code_len, uint16_t *new_edges, size_t new_edges_len, uint16_t *map, size_t map_len,
+                    uint64_t *counts, size_t counts_len, uint64_t *place, size_t place_len);
 
 /* Checks a program and, where it is accepted, puts its figures: how tightly it is held.
  * Answers PG_OK where it is accepted; PG_PLACE_TOO_SHORT where figures_len is below PG_FIGURES or place_len below 2 (tested

@@ -6,6 +6,7 @@
 pub mod checkers;
 pub mod editions;
 pub mod figures;
+pub mod rewrite;
 pub mod totals;
 
 #[derive(Clone, Copy, PartialEq, Eq, Debug)]
@@ -99,6 +100,22 @@ pub struct State {
 
 pub fn shaped(len: usize, n: usize) -> bool {
     n >= 1 && n <= 2048 && n <= len && len - n <= 2048
+}
+
+/// Whether a step from one pc to another keeps to the claimed graph: at a jmp the listed edges, elsewhere what the word says, cut
+/// to code.
+pub fn is_successor(code: &[u64], edges: &[u16], from: u64, to: u64) -> bool {
+    let inside = |pc: u64| pc < code.len() as u64;
+    if !inside(from) || !inside(to) {
+        return false;
+    }
+    match decode(code[from as usize]) {
+        Op::Jmp(_) => edges.chunks(2).any(|edge| [u64::from(edge[0]), u64::from(edge[1])] == [from, to]),
+        Op::Bgt(_, _, w) => to == from + 1 || to == u64::from(w),
+        Op::Jd(w) => to == u64::from(w),
+        Op::Illegal => false,
+        _ => to == from + 1,
+    }
 }
 
 /// 0, or the stop

@@ -123,6 +123,23 @@ mod library {
             place: *mut u64,
             place_len: usize,
         ) -> u32;
+        pub fn pg_rewrite(
+            memory: *const u64,
+            memory_len: usize,
+            n: usize,
+            edges: *const u16,
+            edges_len: usize,
+            code: *mut u64,
+            code_len: usize,
+            new_edges: *mut u16,
+            new_edges_len: usize,
+            map: *mut u16,
+            map_len: usize,
+            counts: *mut u64,
+            counts_len: usize,
+            place: *mut u64,
+            place_len: usize,
+        ) -> u32;
         pub fn pg_report(
             technique: u8,
             memory: *const u64,
@@ -388,6 +405,38 @@ pub mod slices {
     }
 
     #[inline]
+    pub fn rewrite(
+        memory: &[u64],
+        n: usize,
+        edges: &[u16],
+        code: &mut [u64],
+        new_edges: &mut [u16],
+        map: &mut [u16],
+        counts: &mut [u64],
+        place: &mut [u64],
+    ) -> u32 {
+        unsafe {
+            library::pg_rewrite(
+                memory.as_ptr(),
+                memory.len(),
+                n,
+                edges.as_ptr(),
+                edges.len(),
+                code.as_mut_ptr(),
+                code.len(),
+                new_edges.as_mut_ptr(),
+                new_edges.len(),
+                map.as_mut_ptr(),
+                map.len(),
+                counts.as_mut_ptr(),
+                counts.len(),
+                place.as_mut_ptr(),
+                place.len(),
+            )
+        }
+    }
+
+    #[inline]
     pub fn report(
         technique: u8,
         memory: &[u64],
@@ -469,8 +518,8 @@ pub mod slices {
 }
 
 pub use slices::{
-    add_parcel, add_report, check, check_wide, decode, encode, narrow, read_parcel, read_wide_parcel, report, report_parcel, widen,
-    write_data, write_parcel, write_parcel_placed, write_wide_parcel,
+    add_parcel, add_report, check, check_wide, decode, encode, narrow, read_parcel, read_wide_parcel, report, report_parcel, rewrite,
+    widen, write_data, write_parcel, write_parcel_placed, write_wide_parcel,
 };
 
 /// A state as 33 words. `State` is `repr(C)`: 32 registers and then the pc, with nothing between.

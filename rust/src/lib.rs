@@ -36,19 +36,25 @@
 //! Bigger controllers share a second edition of the parcel, whose edges have addresses of 32 bits: [`WideProgram`] reads, writes
 //! and checks it, and [`widened`] and [`narrowed`] convert. Everything else is for the first edition, with 16 bits.
 //!
+//! An installer need not write labels and guards: [`Program::with_guards`] puts them into bare code, and gives a map from each old
+//! address to its new one.
+//!
 //! The functions are thin, and `#[inline]`: a call costs what the library's call costs.
 //!
 //! No function here panics, and none has a precondition: any numbers may be passed. The proved contract of each call is in
 //! `crates/capi/src/lib.rt`; for figures and totals in `crates/owner/src/lib.rt`, for the second edition and the converters in
-//! `crates/wide/src/lib.rt`. The only unsafe code, in `calls.rs`, hands slices over to them. Instructions, steps, what a check asks, the parcel and every number are explained in docs/REFERENCE.md
-//! of the repository.
+//! `crates/wide/src/lib.rt`, for guards that are put in in `crates/installer/src/lib.rt`. The only unsafe code, in `calls.rs`,
+//! hands slices over to them. Instructions, steps, what a check asks, the parcel and every number are explained in
+//! docs/REFERENCE.md of the repository.
 
 mod calls;
 mod editions;
+mod rewrite;
 
 pub use editions::{
     check_wide, narrow, narrowed, read_wide_parcel, widen, widened, write_wide_parcel, WideProgram, MAX_WIDE_PARCEL,
 };
+pub use rewrite::{rewrite, Guarded, MAX_CODE};
 
 use std::fmt;
 
@@ -159,17 +165,20 @@ pub enum Refusal {
     NotRegister = 17,
     EdgeNotRising = 18,
     EdgeTooWide = 19,
+    LabelOrReserved = 20,
+    BranchOut = 21,
+    ResultTooLong = 22,
 }
 
 impl Refusal {
-    /// The number of docs/REFERENCE.md, 1 to 19.
+    /// The number of docs/REFERENCE.md, 1 to 22.
     #[inline]
     pub fn number(self) -> u32 {
         self as u32
     }
 
     /// Every refusal, in the sequence of the numbers.
-    pub const ALL: [Refusal; 19] = [
+    pub const ALL: [Refusal; 22] = [
         Refusal::CountMissing,
         Refusal::CountLimit,
         Refusal::ItemsMissing,
@@ -189,9 +198,12 @@ impl Refusal {
         Refusal::NotRegister,
         Refusal::EdgeNotRising,
         Refusal::EdgeTooWide,
+        Refusal::LabelOrReserved,
+        Refusal::BranchOut,
+        Refusal::ResultTooLong,
     ];
 
-    /// The refusal of a number that the library answers: 1 to 19.
+    /// The refusal of a number that the library answers: 1 to 22.
     #[inline]
     fn of(number: u32) -> Refusal {
         Refusal::ALL[(number as usize).clamp(1, Refusal::ALL.len()) - 1]
@@ -220,6 +232,9 @@ impl fmt::Display for Refusal {
             Refusal::NotRegister => "a bus write names a register outside r3 to r31",
             Refusal::EdgeNotRising => "an edge is not above the one before it",
             Refusal::EdgeTooWide => "an edge's address is above 65,535",
+            Refusal::LabelOrReserved => "bare code has a label, or a word that names r0, r1 or r2",
+            Refusal::BranchOut => "a bgt or jd leads out of the bare code",
+            Refusal::ResultTooLong => "with its guards the code has more than 2,048 words",
         };
         write!(f, "{} ({})", words, self.number())
     }
@@ -405,8 +420,8 @@ impl fmt::Display for Verdict {
     }
 }
 
-/// Why a program has no figures or no parcel, or a parcel none in the other edition: the first rule that is broken, and its first
-/// faulty place.
+/// Why a program has no figures, no parcel or no guards, or a parcel none in the other edition: the first rule that is broken, and
+/// its first faulty place.
 #[derive(Clone, Copy, PartialEq, Eq, Hash, Debug)]
 pub struct Fault {
     pub refusal: Refusal,

@@ -1,8 +1,12 @@
-//! docs/REFERENCE.md against what it tells of: the programs and bytes shown are the examples and are accepted as the page says, the
-//! tables of numbers have every number under the header's name, every call of the header has its row, the longest parcels are
-//! those of the header and of the crate, what the example of figures prints is what it prints, and the definitions that the page
-//! names are there. Every example, of either edition, gets the verdicts that were worked out by hand.
-use post_guard::{narrowed, widened, Fault, Place, Program, Refusal, Refusal::*, Technique, Verdict, WideProgram};
+//! docs/REFERENCE.md against what it tells of: the programs and bytes shown are the examples and are accepted as the page says, or
+//! get guards if they are bare, the tables of numbers have every number under the header's name, every call of the header has its
+//! row, the longest parcels are those of the header and of the crate, what the examples of figures and of guards print is what they
+//! print, and the definitions that the page names are there. Every example, of either edition, gets the verdicts that were worked
+//! out by hand.
+use post_guard::{
+    encode, narrowed, run, widened, Ending, Fault, Instruction::*, Place, Program, Refusal, Refusal::*, State, Stop, Technique,
+    Verdict, WideProgram,
+};
 use std::fs;
 use std::path::{Path, PathBuf};
 
@@ -53,10 +57,15 @@ fn program(name: &str) -> Program {
 #[test]
 fn programs_shown_are_the_examples_and_accepted() {
     let mut techniques = Vec::new();
+    let mut bare = 0;
     for Shown { file, before, block } in shown() {
         let Some(name) = file.strip_prefix("examples/").and_then(|rest| rest.strip_suffix(".txt")) else { continue };
         assert_eq!(block, text_of(&file), "{file}");
-        let technique = if before.ends_with("Accepted, plain:") {
+        let technique = if before.ends_with("Bare code:") {
+            assert!(program(name).with_guards().is_ok(), "{file}");
+            bare += 1;
+            continue;
+        } else if before.ends_with("Accepted, plain:") {
             Technique::Plain
         } else if before.ends_with("Accepted, with memory guards:") {
             Technique::MemoryGuards
@@ -67,6 +76,7 @@ fn programs_shown_are_the_examples_and_accepted() {
         techniques.push(technique);
     }
     assert!(techniques.contains(&Technique::Plain) && techniques.contains(&Technique::MemoryGuards), "{techniques:?}");
+    assert_eq!(bare, 1, "the page shows bare code");
 }
 
 /// Bytes are shown to the end of the parcel: of the first edition from its first byte, of the second from any.
@@ -111,6 +121,10 @@ fn examples_get_the_verdicts_worked_out_by_hand() {
         ("branch-out", address(BranchTarget, 11), address(StoreUnguarded, 14)),
         // with memory guards the st at 14 has no guard
         ("clipping", Verdict::Accepted, address(StoreUnguarded, 14)),
+        // bare code: the destination 4 has no label; 12 comes before 13 and 14
+        ("clipping-bare", address(LabelCondition, 4), address(LabelCondition, 4)),
+        // what comes out of it; with memory guards the st, which is at 14 again, has no guard
+        ("clipping-guarded", Verdict::Accepted, address(StoreUnguarded, 14)),
         // the label at 9 is no destination; 12 comes before 13 and 14
         ("clipping-skipped", address(LabelCondition, 9), address(LabelCondition, 9)),
         // with memory guards the st at 25 has no guard
@@ -137,8 +151,54 @@ fn examples_get_the_verdicts_worked_out_by_hand() {
         assert_eq!(program.check(Technique::Plain), plain, "{name}, plain");
         assert_eq!(program.check(Technique::MemoryGuards), guarded, "{name}, with memory guards");
     }
-    for ending in [".parcel", ".txt"] {
-        assert_eq!(examples(ending), expected.map(|(name, _, _)| name), "the examples with the ending {ending}");
+    let names = expected.map(|(name, _, _)| name);
+    assert_eq!(examples(".parcel"), names);
+    // the library makes clipping-guarded
+    assert_eq!(examples(".txt"), names.into_iter().filter(|name| *name != "clipping-guarded").collect::<Vec<_>>());
+}
+
+/// clipping-guarded is what comes out of clipping-bare, word by word as it was worked out by hand, when the three movi words that
+/// hold addresses are mapped. It bills as clipping does.
+#[test]
+fn guarded_example_is_what_comes_out() {
+    let mut guarded = program("clipping-bare").with_guards().unwrap();
+    assert_eq!(guarded.map, [0, 1, 2, 3, 9, 11, 12, 13, 14, 15, 16]);
+    assert_eq!([0, 2, 7].map(|address| guarded.map_movi(address)), [Some(18), Some(9), Some(19)]);
+    let code = [
+        Movi { rd: 3, w: 18 },
+        Ld { rd: 4, rs: 3, w: 0 },
+        Movi { rd: 5, w: 9 },
+        Addi { rd: 0, rs: 5, w: 0 },
+        Ld { rd: 1, rs: 0, w: 0 },
+        Movi { rd: 2, w: 9 },
+        Bgt { rs: 1, rt: 2, w: 17 },
+        Bgt { rs: 2, rt: 1, w: 17 },
+        Jmp { rs: 0 },
+        Label { w: 9 },
+        Movi { rd: 6, w: 4094 },
+        Bgt { rs: 4, rt: 6, w: 16 },
+        Add { rd: 7, rs: 7, rt: 4 },
+        Movi { rd: 8, w: 19 },
+        St { rd: 8, rs: 7, w: 0 },
+        Jd { w: 16 },
+        Illegal,
+        Illegal,
+    ];
+    let expected = Program { memory: [&code.map(encode)[..], &[1200, 0]].concat(), code_words: 18, edges: vec![8, 9] };
+    assert_eq!(guarded.program, expected);
+    assert_eq!(program("clipping-guarded"), expected);
+    assert_eq!(expected.to_parcel(), Ok(bytes_of("examples/clipping-guarded.parcel")));
+
+    for name in ["clipping", "clipping-guarded"] {
+        // a reading is billed; one above the ceiling is not
+        for (reading, bill) in [(1200, 1200), (4094, 4094), (4095, 0)] {
+            let mut program = program(name);
+            let n = program.code_words;
+            program.memory[n] = reading;
+            let ran = run(Technique::Plain, &mut State::fresh([0; 32]), &mut program.memory, n, 100).unwrap();
+            assert_eq!(ran.ending, Ending::Stopped(Stop::Illegal), "{name}");
+            assert_eq!(program.memory[n + 1], bill, "{name}");
+        }
     }
 }
 
@@ -270,13 +330,14 @@ fn every_call_has_a_row() {
 }
 
 #[test]
-fn figures_shown_are_what_the_example_prints() {
-    let mut count = 0;
+fn output_shown_is_what_the_examples_print() {
+    let mut files = Vec::new();
     for Shown { file, block, .. } in shown().into_iter().filter(|shown| shown.file.ends_with(".out")) {
         assert!(!block.is_empty() && text_of(&file).contains(&block), "{file} does not have\n{block}");
-        count += 1;
+        files.push(file);
     }
-    assert!(count > 0, "the page shows no figures");
+    files.sort();
+    assert_eq!(files, ["rust/examples/figures.out", "rust/examples/guards.out"]);
 }
 
 #[test]

@@ -22,3 +22,6 @@ refusal_number Refusal.NotData = 16
 refusal_number Refusal.NotRegister = 17
 refusal_number Refusal.EdgeNotRising = 18
 refusal_number Refusal.EdgeTooWide = 19
+refusal_number Refusal.LabelOrReserved = 20
+refusal_number Refusal.BranchOut = 21
+refusal_number Refusal.ResultTooLong = 22

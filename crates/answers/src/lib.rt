@@ -1,5 +1,5 @@
-// The numbers that calls give (document 01, "Numbers given, in checking order"; 18 is K3's and 19 is K6's, of document 02), by name, and the test
-// behind number 6, which every call on memory and graph makes first.
+// The numbers that calls give (document 01, "Numbers given, in checking order"; of document 02, 18 is K3's, 19 is K6's and 20 to 22 are
+// K7's), by name, and the test behind number 6, which every call on memory and graph makes first.
 #![tactic(auto)]
 
 ghost use Rattle.std.specs.Prelude.{◌≡◌};
@@ -27,6 +27,9 @@ pub enum Refusal {
     NotRegister,
     EdgeNotRising,
     EdgeTooWide,
+    LabelOrReserved,
+    BranchOut,
+    ResultTooLong,
 }
 
 // Where a fault is: an edge, counted from 0, an address, or no place at all.
@@ -67,6 +70,9 @@ pub fn number(refusal: Refusal) -> u8
         Refusal::NotRegister => 17,
         Refusal::EdgeNotRising => 18,
         Refusal::EdgeTooWide => 19,
+        Refusal::LabelOrReserved => 20,
+        Refusal::BranchOut => 21,
+        Refusal::ResultTooLong => 22,
     }
 }
 

@@ -145,7 +145,7 @@ pub fn pg_write_parcel_placed(
 }
 
 // Writes, and puts down how many bytes were written.
-#[tactic(auto, using(parcel::proofs::Runs::over_front, crate::proofs::Parcels::count_short, crate::proofs::Parcels::counted))]
+#[tactic(auto, using(lists::proofs::Places::over_front, crate::proofs::Parcels::count_short, crate::proofs::Parcels::counted))]
 fn write_counted(
     memory: &[u64],
     n: usize,

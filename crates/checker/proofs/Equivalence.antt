@@ -24,7 +24,7 @@ use Rattle.guards.specs.Rules.{store_unguarded, jump_unguarded, inside_ending, t
 use Rattle.guards.proofs.Known.{jmp_place, jmp_place_lem, jmp_there}
 use Rattle.guards.proofs.Targets.{TargetRight, target_right, right_target}
 use Rattle.graph.proofs.Apart.{OneIfMeeting, apart_one, one_apart}
-use Rattle.checker.specs.Conditions.{Listed, IsId, EndsWith, InnerWord, StoresGuarded, OutsideStoreGuards, Conditions}
+use Rattle.checker.specs.Conditions.{Listed, IsId, EndsWith, InnerWord, Graph, StoresGuarded, OutsideStoreGuards, Conditions}
 use Rattle.checker.specs.Theorems.{AcceptedExactly}
 use Rattle.checker.proofs.Listed.{
   edge_listed,
@@ -38,7 +38,7 @@ use Rattle.checker.proofs.Listed.{
   id_same,
 }
 use Rattle.checker.proofs.Readings.{jump_instr, store_instr, label_instr, label_of_is, illegal_instr}
-use Rattle.checker.proofs.Faultless.{Faultless, accepted_faultless, faultless_accepted}
+use Rattle.checker.proofs.Faultless.{ClaimFaultless, Faultless, accepted_faultless, faultless_accepted}
 
 -- sequences, as tests and as facts
 module _ (memory : List ℕ) (slots : List Slot) where
@@ -91,7 +91,8 @@ unlabelled memory n edges a k =
 abbrev any_unlabelled : List ℕ → ℕ → List ℕ → ℕ → Bool
 any_unlabelled memory n edges a = any (unlabelled memory n edges a) (edge_count edges)
 
-module _ (t : Technique) (memory : List ℕ) (n : ℕ) (edges : List ℕ) (ok : Faultless t memory n edges) where
+-- what the rules about the graph leave
+module _ (memory : List ℕ) (n : ℕ) (edges : List ℕ) (ok : ClaimFaultless memory n edges) where
   starts : (j a : ℕ) → Listed edges j a → (j < n) × ((rs : ℕ) × (instr_at memory j ≡ Instr.Jmp rs))
   starts j a l =
       let e : (leb n j || not (is_jump (instr_at memory j))) ≡ false = rw (← l.jump) (ok.edges_start l.place l.within) in
@@ -101,11 +102,8 @@ module _ (t : Technique) (memory : List ℕ) (n : ℕ) (edges : List ℕ) (ok : 
   arrives j a l =
       let e : leb n a ≡ false = rw (← l.target) (ok.edges_end l.place l.within) in leb-false n a e
 
-  has_id : (j a : ℕ) → Listed edges j a → IsId edges j (id_of edges n j)
-  has_id j a l = id_found edges n j a l (arrives j a l)
-
   id_is : (j id : ℕ) → IsId edges j id → id_of edges n j ≡ id
-  id_is j id d = id_same edges j (id_of edges n j) id (has_id j id d.member) d
+  id_is j id d = id_same edges j (id_of edges n j) id (id_found edges n j id d.member (arrives j id d.member)) d
 
   leaves : (j rs : ℕ) → j < n → instr_at memory j ≡ Instr.Jmp rs → (a : ℕ) × Listed edges j a
   leaves j rs h e =
@@ -118,12 +116,20 @@ module _ (t : Technique) (memory : List ℕ) (n : ℕ) (edges : List ℕ) (ok : 
       (listed_edge edges j a ja) b (arrives i b ib))
       ∙ listed_edge edges i b ib)
 
+  pub claim_graph : (t : Technique) → Graph t memory n edges
+  claim_graph t =
+      record { edges_start_at_jumps = starts; edges_end_in_code = arrives; jumps_have_successors = leaves; sets_equal_or_apart = sets }
+
+module _ (t : Technique) (memory : List ℕ) (n : ℕ) (edges : List ℕ) (ok : Faultless t memory n edges) where
+  same_id : (j id : ℕ) → IsId edges j id → id_of edges n j ≡ id
+  same_id = id_is memory n edges ok.claim
+
   labelled : (j a id : ℕ) → Listed edges j a → IsId edges j id → instr_at memory a ≡ Instr.Label id
   labelled j a id l d =
-      let none = any_none (unlabelled memory n edges a) (edge_count edges) (or_left _ _ (ok.labels a (arrives j a l))) in
+      let none = any_none (unlabelled memory n edges a) (edge_count edges) (or_left _ _ (ok.labels a (arrives memory n edges ok.claim j a l))) in
       let here = eq-eqb (target_of edges l.place) a l.target in
       let right = not-false _ (and_rest (eqb (target_of edges l.place) a) _ here (none l.place l.within)) in
-      let same : id_of edges n (jump_of edges l.place) ≡ id = ap (id_of edges n) l.jump ∙ id_is j id d in
+      let same : id_of edges n (jump_of edges l.place) ≡ id = ap (id_of edges n) l.jump ∙ same_id j id d in
       go (label_instr (instr_at memory a) (label_of_is (label_number (instr_at memory a)) _ right)) (rw same at right)
     where
       go : (w : ℕ) × (instr_at memory a ≡ Instr.Label w) → is_label_of (label_number (instr_at memory a)) id ≡ true
@@ -145,11 +151,11 @@ module _ (t : Technique) (memory : List ℕ) (n : ℕ) (edges : List ℕ) (ok : 
   jumps : (a rs id : ℕ) → a < n → instr_at memory a ≡ Instr.Jmp rs → IsId edges a id → EndsWith memory (jump_guard t n id) a
   jumps a rs id h e d =
       ends_with memory (jump_guard t n id) a
-      (rw (← id_is a id d) (not-false _ (and_rest (is_jump (instr_at memory a)) _ (ap is_jump e) (ok.jumps a h))))
+      (rw (← same_id a id d) (not-false _ (and_rest (is_jump (instr_at memory a)) _ (ap is_jump e) (ok.jumps a h))))
 
   out_of_jumps : (w : ℕ) → TargetRight t memory n edges w
       → (j id : ℕ) → j < n → IsId edges j id → InnerWord memory (jump_guard t n id) j w → ⊥
-  out_of_jumps w r j id h d i = true_false (inner_inside memory (jump_guard t n id) w j i) (rw (id_is j id d) at (r.outside_jumps j h))
+  out_of_jumps w r j id h d i = true_false (inner_inside memory (jump_guard t n id) w j i) (rw (same_id j id d) at (r.outside_jumps j h))
 
   out_of_stores : (u : Technique) → t ≡ u → (w : ℕ) → TargetRight t memory n edges w → OutsideStoreGuards t memory n edges u w
   out_of_stores Technique.Plain q w r = tt
@@ -162,10 +168,9 @@ module _ (t : Technique) (memory : List ℕ) (n : ℕ) (edges : List ℕ) (ok : 
   faultless_conditions : Conditions t memory n edges
   faultless_conditions =
       record {
-        shape = ok.shape;
-        graph =
-            record { edges_start_at_jumps = starts; edges_end_in_code = arrives; jumps_have_successors = leaves; sets_equal_or_apart = sets };
-        edges_rise = clean_rising edges ok.edges_rise;
+        shape = ok.claim.shape;
+        graph = claim_graph memory n edges ok.claim t;
+        edges_rise = clean_rising edges ok.claim.edges_rise;
         instrumented =
             record {
               last_illegal = illegal_instr (instr_at memory (n - 1)) ok.last_illegal;
@@ -263,15 +268,18 @@ module _ (t : Technique) (memory : List ℕ) (n : ℕ) (edges : List ℕ) (c : C
   conditions_faultless : Faultless t memory n edges
   conditions_faultless =
       record {
-        shape = c.shape;
-        edges_start = λ k h.
-            let s = c.graph.edges_start_at_jumps (jump_of edges k) (target_of edges k) (place_listed edges k h) in
-            rw (lt-leb n (jump_of edges k) s.0, s.1.1);
-        edges_end = λ k h.
-            lt-leb n (target_of edges k) (c.graph.edges_end_in_code (jump_of edges k) (target_of edges k) (place_listed edges k h));
-        edges_rise = rising_clean edges c.edges_rise;
-        jumps_leave = no_lack;
-        sets_apart = λ i h. one_apart edges n i (λ j l. one_if_meeting i j);
+        claim =
+            record {
+              shape = c.shape;
+              edges_start = λ k h.
+                  let s = c.graph.edges_start_at_jumps (jump_of edges k) (target_of edges k) (place_listed edges k h) in
+                  rw (lt-leb n (jump_of edges k) s.0, s.1.1);
+              edges_end = λ k h.
+                  lt-leb n (target_of edges k) (c.graph.edges_end_in_code (jump_of edges k) (target_of edges k) (place_listed edges k h));
+              edges_rise = rising_clean edges c.edges_rise;
+              jumps_leave = no_lack;
+              sets_apart = λ i h. one_apart edges n i (λ j l. one_if_meeting i j);
+            };
         last_illegal = ap is_illegal c.instrumented.last_illegal;
         labels = no_label_wrong;
         stores = no_store t refl;

@@ -6,3 +6,4 @@ pub mod Equivalence
 pub mod Runs
 pub mod TargetSets
 pub mod GuardedJumps
+pub mod Shown

@@ -1,11 +1,11 @@
 -- A rule with a fault gives the verdict, and one without leaves it to the next.
 use Prim.Native.Nat.{ℕ, ◌/◌, ◌%◌, ◌<◌, ◌≤◌}
 use mathlib.Core.Path.{◌≡◌, refl}
-use mathlib.Core.Bool.{Bool, true, false}
-use mathlib.Core.List.{List, [], ◌∷◌}
+use mathlib.Core.Bool.{Bool, true, false, cond}
+use mathlib.Core.List.{List, [], ◌∷◌, ◌++◌}
 use native.Mathlib.Omega.{arith}
 use borrow.Author.Tests.{lt-ltb, le-ltb, leb-true}
-use lib.Dec.{leb, eqb}
+use lib.Dec.{leb, ltb, eqb}
 use lib.ListN.{length}
 use Rattle.lists.proofs.Bools.{and_right}
 use Rattle.lists.specs.Search.{lowest}
@@ -38,6 +38,22 @@ module _ (refusal : Refusal) (fault : Bool) (place : Place) (rules : List Rule) 
 
   pub kept_once : fault ≡ false → first_broken (rule_once refusal fault place ∷ rules) ≡ first_broken rules
   kept_once e = kept (rule_once refusal fault place) rules 1 (lowest_none (λ _. fault) 1 1 refl (λ k l. e)) (omega arith)
+
+-- rules after rules: the first list decides where it refuses
+abbrev pub or_else : Verdict → Verdict → Verdict
+or_else Verdict.Accepted then = then
+or_else (Verdict.Refused why place) then = Verdict.Refused why place
+
+pub broken_append : (xs ys : List Rule) → first_broken (xs ++ ys) ≡ or_else (first_broken xs) (first_broken ys)
+unfolding first_broken
+broken_append [] ys = refl
+broken_append (rule ∷ xs) ys = go (ltb (lowest rule.faulty rule.places) rule.places) (broken_append xs ys)
+  where
+    go : (b : Bool) → first_broken (xs ++ ys) ≡ or_else (first_broken xs) (first_broken ys)
+        → cond b (Verdict.Refused rule.refusal (rule.called (lowest rule.faulty rule.places))) (first_broken (xs ++ ys))
+        ≡ or_else (cond b (Verdict.Refused rule.refusal (rule.called (lowest rule.faulty rule.places))) (first_broken xs)) (first_broken ys)
+    go true e = refl
+    go false e = e
 
 -- what number 6 leaves
 pub sized : (memory : List ℕ) (n : ℕ) → memory_shaped (length memory) n ≡ true → Sized memory n

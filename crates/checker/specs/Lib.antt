@@ -3,3 +3,4 @@ pub mod Conditions
 pub mod Theorems
 pub mod Steps
 pub mod Passes
+pub mod Examples

@@ -69,6 +69,15 @@ rules_of t memory n edges =
     rule_once Refusal.Shape (not (call_shaped (length memory) n (length edges))) Place.Nowhere
     ∷ graph_rules memory n edges (label_rules memory n edges (guard_rules t memory n edges))
 
+-- 6, 7, 8, 18, 9 and 10, which speak of the graph alone, and then the rest
+abbrev pub claim_rules : List ℕ → ℕ → List ℕ → List Rule → List Rule
+claim_rules memory n edges rest =
+    rule_once Refusal.Shape (not (call_shaped (length memory) n (length edges))) Place.Nowhere ∷ graph_rules memory n edges rest
+
 -- memory is n words of code and then the data; edges are the edge numbers as they are lent
 unfoldable pub verdict_of : Technique → List ℕ → ℕ → List ℕ → Verdict
 verdict_of t memory n edges = first_broken (rules_of t memory n edges)
+
+-- the verdict of the rules that speak of the graph alone, whatever the code's labels and guards
+unfoldable pub claim_verdict_of : List ℕ → ℕ → List ℕ → Verdict
+claim_verdict_of memory n edges = first_broken (claim_rules memory n edges [])

@@ -2,13 +2,12 @@
 // st, stands within the next few words.
 ghost use Rattle.std.specs.Prelude.{◌≡◌, min, ◌<◌, ◌≤◌, length};
 ghost use Rattle.lists.specs.Search.{lowest};
-ghost use Rattle.isa.specs.Words.{decode_of};
-ghost use Rattle.isa.specs.Instructions.{instr_at, is_branch};
+ghost use Rattle.isa.specs.Instructions.{instr_at};
 ghost use Rattle.guards.specs.Rules.{branch_wrong};
 ghost use Rattle.guards.specs.Patterns.{ending_near, ending_kind, guard_near, target_bad, branch_bad, GuardsKept};
 
 use crate::code::{jump_at, store_at};
-use isa::{Kind, Technique, is_a};
+use isa::{Technique, is_branch};
 
 // Rule 15: the lowest bgt or jd that breaks the target condition, or n.
 #[tactic(auto, using(lists::proofs::Search::lowest_at, lists::proofs::Search::lowest_none, lists::proofs::Search::clean_none, lists::proofs::Search::clean_more, guards::proofs::Endings::branch_wrong_lem))]
@@ -41,15 +40,6 @@ fn is_wrong_branch(technique: Technique, memory: &[u64], n: usize, a: usize) -> 
         return is_wrong_target(technique, memory, n, (word % 0x1_0000_0000) as usize);
     }
     false
-}
-
-fn is_branch(word: u64) -> bool
-    ensures { result ≡ is_branch (decode_of word) }
-{
-    if is_a(Kind::Bgt, word) {
-        return true;
-    }
-    is_a(Kind::Jd, word)
 }
 
 // The target is outside code, or a word of a guard but its first.

@@ -4,8 +4,8 @@
 ghost use Rattle.std.specs.Prelude.{◌≡◌, ◌≤◌};
 ghost use Rattle.graph.specs.Claim.{edge_count};
 ghost use Rattle.graph.specs.Passes.{Sized, Owned};
-ghost use Rattle.checker.specs.Verdicts.{first_broken, guard_rules, verdict_of};
-ghost use Rattle.checker.specs.Steps.{from_edges, from_sets, from_labels};
+ghost use Rattle.checker.specs.Verdicts.{first_broken, guard_rules, verdict_of, claim_verdict_of};
+ghost use Rattle.checker.specs.Steps.{rules_to, from_edges, from_sets, from_labels};
 ghost use Rattle.checker.specs.Passes.{Claimed, Leaving};
 
 mod branches;
@@ -28,22 +28,45 @@ use unguarded::{first_bare_jump, first_bare_store};
 
 // Whether the n words of code at the front of memory, with these edges, keep the technique's conditions, and if not, the
 // number and the place of the first fault.
-#[tactic(auto, using(lists::proofs::Bools::and_left, lists::proofs::Bools::and_right, crate::proofs::Rules::broken_once, crate::proofs::Rules::kept_once, crate::proofs::Rules::sized, crate::proofs::Rules::few_edges), unfolding(crate::specs::Verdicts::verdict_of))]
+#[tactic(auto, unfolding(crate::specs::Verdicts::verdict_of))]
 #[inline(never)]
 pub fn check(technique: Technique, memory: &[u64], n: usize, edges: &[u16]) -> Verdict
     ensures { result ≡ verdict_of technique memory.now n edges.now }
 {
+    check_to(Extent::Whole(technique), memory, n, edges)
+}
+
+// The rules that speak of memory and graph alone, whatever the code's labels and guards: 6, 7, 8, 18, 9 and 10.
+#[tactic(auto, unfolding(crate::specs::Verdicts::claim_verdict_of))]
+#[inline(never)]
+pub fn check_claim(memory: &[u64], n: usize, edges: &[u16]) -> Verdict
+    ensures { result ≡ claim_verdict_of memory.now n edges.now }
+{
+    check_to(Extent::Claim, memory, n, edges)
+}
+
+// How far a check goes: through the rules about the graph, or through all of a technique's.
+#[derive(Clone, Copy)]
+enum Extent {
+    Claim,
+    Whole(Technique),
+}
+
+#[tactic(auto, using(lists::proofs::Bools::and_left, lists::proofs::Bools::and_right, crate::proofs::Rules::broken_once, crate::proofs::Rules::kept_once, crate::proofs::Rules::sized, crate::proofs::Rules::few_edges))]
+fn check_to(extent: Extent, memory: &[u64], n: usize, edges: &[u16]) -> Verdict
+    ensures { result ≡ first_broken (rules_to extent memory.now n edges.now) }
+{
     if call_shaped(memory.len(), n, edges.len()) {
-        return check_edges(technique, memory, n, edges);
+        return check_edges(extent, memory, n, edges);
     }
     Verdict::Refused(Refusal::Shape, Place::Nowhere)
 }
 
 // Rules 7, 8 and 18, and those after them.
 #[tactic(auto, using(lists::proofs::Search::clean_of, graph::proofs::Edges::within_of, rising::proofs::Rising::clean_rising, crate::proofs::Rules::broken, crate::proofs::Rules::kept))]
-fn check_edges(technique: Technique, memory: &[u64], n: usize, edges: &[u16]) -> Verdict
+fn check_edges(extent: Extent, memory: &[u64], n: usize, edges: &[u16]) -> Verdict
     requires { Sized memory.now n × (edge_count edges.now ≤ 2048) }
-    ensures { result ≡ first_broken (from_edges technique memory.now n edges.now) }
+    ensures { result ≡ first_broken (from_edges extent memory.now n edges.now) }
 {
     let m = edges.len() / 2;
     let e = first_from_no_jump(memory, n, edges);
@@ -58,14 +81,14 @@ fn check_edges(technique: Technique, memory: &[u64], n: usize, edges: &[u16]) ->
     if g < m {
         return Verdict::Refused(Refusal::EdgeNotRising, Place::Edge(g));
     }
-    check_sets(technique, memory, n, edges)
+    check_sets(extent, memory, n, edges)
 }
 
 // Rules 9 and 10, and those after them.
 #[tactic(auto, using(lists::proofs::Search::clean_of, lists::proofs::Tables::table_new, crate::proofs::Rules::broken, crate::proofs::Rules::kept))]
-fn check_sets(technique: Technique, memory: &[u64], n: usize, edges: &[u16]) -> Verdict
+fn check_sets(extent: Extent, memory: &[u64], n: usize, edges: &[u16]) -> Verdict
     requires { Claimed memory.now n edges.now }
-    ensures { result ≡ first_broken (from_sets technique memory.now n edges.now) }
+    ensures { result ≡ first_broken (from_sets extent memory.now n edges.now) }
 {
     let a = first_without_edge(memory, n, edges);
     if a < n {
@@ -77,7 +100,10 @@ fn check_sets(technique: Technique, memory: &[u64], n: usize, edges: &[u16]) -> 
     if b < n {
         return Verdict::Refused(Refusal::TargetSetsOverlap, Place::Address(b));
     }
-    check_labels(technique, memory, n, edges, &own)
+    match extent {
+        Extent::Claim => Verdict::Accepted,
+        Extent::Whole(technique) => check_labels(technique, memory, n, edges, &own),
+    }
 }
 
 // Rules 11 and 12, and those after them.

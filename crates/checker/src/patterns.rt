@@ -4,61 +4,12 @@ ghost use Rattle.isa.specs.Words.{decode_of, encode_of};
 ghost use Rattle.isa.specs.declared.Instr.{Instr};
 ghost use Rattle.isa.specs.declared.Technique.{Technique};
 ghost use Rattle.guards.specs.Sequences.{fits, stands_at, ends_at, jump_guard, store_guard};
-ghost use Rattle.guards.specs.Patterns.{slot_of, word_at, slots_from, Form, Formed, words_of, jump_words, frees_of, jump_length, id_place};
+ghost use Rattle.guards.specs.Patterns.{slot_of, word_at, slots_from, Form, Formed, words_of, frees_of, jump_length, id_place};
 
 use isa::{Instr, Technique, encode};
 
-// The words that lead to a jmp, itself the last, but for the movi that holds the ID: 0 stands there, and it is given apart.
-pub(crate) fn jump_words(technique: Technique, n: usize) -> [u64; 10]
-    requires { (1 ≤ n) × (n ≤ 2048) }
-    ensures { result ≡ jump_words technique n }
-{
-    match technique {
-        Technique::Plain => plain_jump_words(n),
-        Technique::MemoryGuards => guarded_jump_words(n),
-    }
-}
-
-fn plain_jump_words(n: usize) -> [u64; 10]
-    requires { (1 ≤ n) × (n ≤ 2048) }
-    ensures { result ≡ jump_words Technique.Plain n }
-{
-    let halt = halt_of(n);
-    [
-        encode(Instr::Addi(0, 0, 0)),
-        encode(Instr::Ld(1, 0, 0)),
-        0,
-        encode(Instr::Bgt(1, 2, halt)),
-        encode(Instr::Bgt(2, 1, halt)),
-        encode(Instr::Jmp(0)),
-        0,
-        0,
-        0,
-        0,
-    ]
-}
-
-fn guarded_jump_words(n: usize) -> [u64; 10]
-    requires { (1 ≤ n) × (n ≤ 2048) }
-    ensures { result ≡ jump_words Technique.MemoryGuards n }
-{
-    let halt = halt_of(n);
-    [
-        encode(Instr::Addi(0, 0, 0)),
-        encode(Instr::Movi(1, halt)),
-        encode(Instr::Movi(2, 0)),
-        encode(Instr::Bgt(0, 1, halt)),
-        encode(Instr::Bgt(2, 0, halt)),
-        encode(Instr::Ld(1, 0, 0)),
-        0,
-        encode(Instr::Bgt(1, 2, halt)),
-        encode(Instr::Bgt(2, 1, halt)),
-        encode(Instr::Jmp(0)),
-    ]
-}
-
 // HALT: the address of the last code word.
-fn halt_of(n: usize) -> u32
+pub(crate) fn halt_of(n: usize) -> u32
     requires { (1 ≤ n) × (n ≤ 2048) }
     ensures { result ≡ n - 1 }
 {

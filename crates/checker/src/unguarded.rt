@@ -11,8 +11,9 @@ ghost use Rattle.checker.specs.Passes.{Claimed, Leaving};
 use crate::code::store_at;
 use crate::edges::{jump_of, run_end, target_of};
 use crate::patterns::{
-    ends_at, id_place, id_word, jump_frees, jump_length, jump_words, store_frees, store_words,
+    ends_at, halt_of, id_place, id_word, jump_frees, jump_length, store_frees, store_words,
 };
+use guards::jump_words;
 use isa::Technique;
 
 // Rule 13: the lowest st without its form or sequence, or n; without memory guards none is asked.
@@ -70,7 +71,7 @@ pub(crate) fn first_bare_jump(
     requires { Claimed memory.now n edges.now × Leaving memory.now n edges.now }
     ensures { result ≡ lowest (jump_unguarded technique memory.now n edges.now) n }
 {
-    let words = jump_words(technique, n);
+    let words = jump_words(technique, halt_of(n));
     let m = edges.len() / 2;
     let mut k = 0;
     while k < m {

@@ -19,8 +19,9 @@ use Rattle.parcel.specs.Parcel.{Content, holds, refused, read_of, counts_of, sec
 use Rattle.parcel.specs.Theorems.{AllBelow}
 use Rattle.parcel.specs.declared.Read.{Read}
 use Rattle.parcel.specs.declared.Written.{Written}
-use Rattle.parcel.proofs.Numbers.{length_bytes, sets_append}
-use Rattle.parcel.proofs.Runs.{length_numbers, length_all_bytes, over_front}
+use Rattle.lists.proofs.Places.{over_front, sets_append}
+use Rattle.parcel.proofs.Numbers.{length_bytes}
+use Rattle.parcel.proofs.Runs.{length_numbers, length_all_bytes}
 use Rattle.parcel.proofs.Sections.{length_section}
 use Rattle.parcel.proofs.ReaderAnswers.{Whole, whole}
 use Rattle.parcel.proofs.RoundTrips.{bytes_of_numbers, below_drop, parcel_written}

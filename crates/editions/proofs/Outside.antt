@@ -27,7 +27,7 @@ use Rattle.graph.specs.Passes.{Within}
 use Rattle.graph.proofs.Edges.{within_of}
 use Rattle.checker.specs.Verdicts.{verdict_of}
 use Rattle.checker.proofs.Rules.{broken, kept, kept_once, sized, few_edges}
-use Rattle.parcel.proofs.Runs.{over_front}
+use Rattle.lists.proofs.Places.{over_front}
 use Rattle.editions.specs.Inside.{cut_of, cut_all}
 
 -- ---- the first rules on edges: 7, 8, or every edge lies in code

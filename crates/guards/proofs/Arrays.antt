@@ -152,7 +152,7 @@ module _ (n : ℕ) (small : n ≤ 2048) where
   jump_end : Formed (just (Instr.Jmp 0) ∷ [])
   jump_end = (whole (Instr.Jmp 0) refl (omega arith), tt)
 
-  jump_formed : (t : Technique) (id : ℕ) → id < 2 ^ 32 → Formed (jump_guard t n id)
+  pub jump_formed : (t : Technique) (id : ℕ) → id < 2 ^ 32 → Formed (jump_guard t n id)
   jump_formed Technique.Plain id l = (addi_form false, label_test_lem id (just (Instr.Jmp 0) ∷ []) l jump_end)
   jump_formed Technique.MemoryGuards id l =
       (addi_form false, range_test_lem (n - 1) 0 (label_test n id (just (Instr.Jmp 0) ∷ [])) (omega arith) (omega arith) (label_test_lem id (just (Instr.Jmp 0) ∷ []) l jump_end))
@@ -160,7 +160,7 @@ module _ (n : ℕ) (small : n ≤ 2048) where
   store_end : Formed (any_register_in (Instr.St 0 0 0) ∷ [])
   store_end = (store_form, tt)
 
-  store_formed : (len : ℕ) → len ≤ 4096 → Formed (store_guard n len)
+  pub store_formed : (len : ℕ) → len ≤ 4096 → Formed (store_guard n len)
   store_formed len l =
       (addi_form true, range_test_lem (len - 1) n (any_register_in (Instr.St 0 0 0) ∷ []) (omega arith) (omega arith) store_end)
 
@@ -196,3 +196,7 @@ store_kept n len words free s l ew ef = rw (ew, ef) (kept _ _ (store_guard n len
 pub jump_length_low : (t : Technique) → jump_length t ≤ 10
 jump_length_low Technique.Plain = omega arith
 jump_length_low Technique.MemoryGuards = omega arith
+
+-- the last address of a code whose last address is h
+pub halt_back : (h : ℕ) → h + 1 - 1 ≡ h
+halt_back h = omega arith

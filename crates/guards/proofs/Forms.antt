@@ -23,7 +23,7 @@ legal_pack x e = pack_split x (split x).kind (opcode_kind_lem (x / 2 ^ 56) (fit 
 same : (x : ℕ) → eqb x x ≡ true
 same x = eq-eqb x x refl
 
-free_fit : (p f : Fields) (any_b any_w : Bool) → fields_agree p (filled_fields p f any_b any_w) any_b any_w ≡ true
+pub free_fit : (p f : Fields) (any_b any_w : Bool) → fields_agree p (filled_fields p f any_b any_w) any_b any_w ≡ true
 free_fit p f true true = rw (same (opcode_of p.kind), same p.a, same p.c)
 free_fit p f true false = rw (same (opcode_of p.kind), same p.a, same p.c, same p.w)
 free_fit p f false true = rw (same (opcode_of p.kind), same p.a, same p.b, same p.c)
@@ -46,25 +46,27 @@ module _ (i : Instr) where
   abbrev q : Bool → Bool → ℕ → Fields
   q any_b any_w x = filled_fields p (split x) any_b any_w
 
-  free_register : (any_b any_w : Bool) (x : ℕ) → Form (slot any_b any_w) → taken_b any_b x < 32
-      → register_ok (named_by p.kind).b (cond any_b (x / 2 ^ 40 % 256) p.b) ≡ true
-  free_register true any_w x h l = rw (h.register_named refl) (lt-ltb _ _ l)
-  free_register false any_w x h l = (fit p h.legal).b_fits
+  -- the slot's fields, filled from any others that fit a word, are an exact form
+  free_register : (any_b any_w : Bool) (f : Fields) → Form (slot any_b any_w) → cond any_b f.b 0 < 32
+      → register_ok (named_by p.kind).b (cond any_b f.b p.b) ≡ true
+  free_register true any_w f h l = rw (h.register_named refl) (lt-ltb _ _ l)
+  free_register false any_w f h l = (fit p h.legal).b_fits
 
-  free_immediate : (any_b any_w : Bool) (x : ℕ) → Form (slot any_b any_w)
-      → immediate_ok (named_by p.kind).w (cond any_w (x % 2 ^ 32) p.w) ≡ true
-  free_immediate any_b true x h = rw (h.immediate_named refl)
-  free_immediate any_b false x h = (fit p h.legal).w_fits
+  free_immediate : (any_b any_w : Bool) (f : Fields) → Form (slot any_b any_w)
+      → immediate_ok (named_by p.kind).w (cond any_w f.w p.w) ≡ true
+  free_immediate any_b true f h = rw (h.immediate_named refl)
+  free_immediate any_b false f h = (fit p h.legal).w_fits
 
-  free_exact : (any_b any_w : Bool) (x : ℕ) → Form (slot any_b any_w) → taken_b any_b x < 32 → exact (q any_b any_w x) ≡ true
-  free_exact any_b any_w x h l =
+  pub free_exact : (any_b any_w : Bool) (f : Fields) → Form (slot any_b any_w) → cond any_b f.b 0 < 32
+      → exact (filled_fields p f any_b any_w) ≡ true
+  free_exact any_b any_w f h l =
       let e = fit p h.legal in
       both_true e.is_known
-      (both_true e.a_fits (both_true (free_register any_b any_w x h l) (both_true e.c_fits (free_immediate any_b any_w x h))))
+      (both_true e.a_fits (both_true (free_register any_b any_w f h l) (both_true e.c_fits (free_immediate any_b any_w f h))))
 
-  free_short : (any_b any_w : Bool) (x : ℕ) → Form (slot any_b any_w) → cond any_w (x % 2 ^ 32) p.w < 2 ^ 32
-  free_short any_b true x h = omega arith
-  free_short any_b false x h = h.short
+  pub free_short : (any_b any_w : Bool) (f : Fields) → Form (slot any_b any_w) → f.w < 2 ^ 32 → cond any_w f.w p.w < 2 ^ 32
+  free_short any_b true f h l = l
+  free_short any_b false f h l = h.short
 
   free_pack : (any_b any_w : Bool) (x : ℕ) → Form (slot any_b any_w) → x - taken_b any_b x * 2 ^ 40 - taken_w any_w x ≡ pack p
       → pack (q any_b any_w x) ≡ x
@@ -77,9 +79,9 @@ module _ (i : Instr) where
       → x - taken_b any_b x * 2 ^ 40 - taken_w any_w x ≡ pack p → fits (slot any_b any_w) (decode_of x) ≡ true
   unfolding fits
   word_fits any_b any_w x h l e =
-      let ok = free_exact any_b any_w x h l in
+      let ok = free_exact any_b any_w (split x) h l in
       let parts : split x ≡ q any_b any_w x =
-      ap split (sym (free_pack any_b any_w x h e)) ∙ split_pack (q any_b any_w x) ok (free_short any_b any_w x h) in
+      ap split (sym (free_pack any_b any_w x h e)) ∙ split_pack (q any_b any_w x) ok (free_short any_b any_w (split x) h (omega arith)) in
       ap (λ (g : Fields). fields_agree p g any_b any_w) (ap fields_of (decode_exact x (q any_b any_w x) parts ok) ∙ exact_back (q any_b any_w x) ok)
       ∙ free_fit p (split x) any_b any_w
 

@@ -1,5 +1,5 @@
--- Guard sequences as the checker's code has them: an array of words, and for each how much of it is free. Contracts of
--- private functions cite these; nothing that is promised outside does.
+-- Guard sequences as code has them: an array of words, and for each how much of it is free. `guards::jump_words` and the contracts of
+-- private functions cite these; nothing that is promised to users does.
 use Rattle.std.specs.Prelude.{ℕ, zero, suc, ◌+◌, ◌^◌, ◌<◌, ◌≡◌, Bool, true, false, cond, ◌&&◌, ◌||◌, List, [], ◌∷◌, get_or, set, ltb, leb, eqb}
 use Rattle.std.proofs.Math.Option.{Option, none, some}
 use Rattle.lists.specs.Search.{any}

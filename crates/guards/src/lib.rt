@@ -1,7 +1,14 @@
-// Guard sequences as data, and what breaks rules 13 to 15. This crate holds definitions and laws; the code is in `checker`.
+// Guard sequences as data, and what breaks rules 13 to 15. This crate holds definitions and laws, and the words of a jmp's sequence; what
+// looks for them is in `checker`, and what puts them in is in `rewrite`.
 #![tactic(auto)]
 
-use isa::Instr;
+ghost use Rattle.std.specs.Prelude.{◌≡◌, ◌+◌};
+ghost use Rattle.isa.specs.Words.{encode_of};
+ghost use Rattle.isa.specs.declared.Instr.{Instr};
+ghost use Rattle.isa.specs.declared.Technique.{Technique};
+ghost use Rattle.guards.specs.Patterns.{jump_words};
+
+use isa::{Instr, Technique, encode};
 
 // A word of a guard sequence: an instruction, of which register field b or the immediate w may be free.
 #[derive(Clone, Copy)]
@@ -9,4 +16,56 @@ pub struct Slot {
     pub instr: Instr,
     pub any_register: bool,
     pub any_immediate: bool,
+}
+
+// The words that lead to a jmp, itself the last, in a code whose last address is halt; but for the movi that holds the ID: 0 stands
+// there, and it is given apart.
+pub fn jump_words(technique: Technique, halt: u32) -> [u64; 10]
+    ensures { result ≡ jump_words technique (halt + 1) }
+{
+    match technique {
+        Technique::Plain => plain_jump_words(halt),
+        Technique::MemoryGuards => guarded_jump_words(halt),
+    }
+}
+
+fn plain_jump_words(halt: u32) -> [u64; 10]
+    ensures { result ≡ jump_words Technique.Plain (halt + 1) }
+{
+    [
+        encode(Instr::Addi(0, 0, 0)),
+        encode(Instr::Ld(1, 0, 0)),
+        0,
+        encode(Instr::Bgt(1, 2, halt)),
+        encode(Instr::Bgt(2, 1, halt)),
+        encode(Instr::Jmp(0)),
+        0,
+        0,
+        0,
+        0,
+    ]
+}
+
+fn guarded_jump_words(halt: u32) -> [u64; 10]
+    ensures { result ≡ jump_words Technique.MemoryGuards (halt + 1) }
+{
+    [
+        encode(Instr::Addi(0, 0, 0)),
+        encode(Instr::Movi(1, halt)),
+        encode(Instr::Movi(2, 0)),
+        encode(Instr::Bgt(0, 1, halt)),
+        encode(Instr::Bgt(2, 0, halt)),
+        encode(Instr::Ld(1, 0, 0)),
+        0,
+        encode(Instr::Bgt(1, 2, halt)),
+        encode(Instr::Bgt(2, 1, halt)),
+        encode(Instr::Jmp(0)),
+    ]
+}
+
+// The movi that holds the ID.
+pub fn id_word(id: u32) -> u64
+    ensures { result ≡ encode_of (Instr.Movi 2 id) }
+{
+    encode(Instr::Movi(2, id))
 }

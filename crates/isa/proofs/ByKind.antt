@@ -58,7 +58,7 @@ module _ (k : Kind) (hk : known k ≡ true) (x : ℕ) where
       (ap (λ (i : Instr). opcode_of (fields_of i).kind) (formed_decode o e)
       ∙ ap (λ (f : Fields). opcode_of f.kind) (exact_back (fields_as k x) e)))
 
-  kind_formed : is_kind k (decode_of x) ≡ true → (opcode_of k ≡ x / 2 ^ 56) × (exact (fields_as k x) ≡ true)
+  pub kind_formed : is_kind k (decode_of x) ≡ true → (opcode_of k ≡ x / 2 ^ 56) × (exact (fields_as k x) ≡ true)
   unfolding decode_of
   kind_formed h = go (exact (split x)) refl
     where

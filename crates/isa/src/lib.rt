@@ -2,7 +2,7 @@
 #![tactic(auto)]
 
 ghost use Rattle.std.specs.Prelude.{◌≡◌, cond, ◌&&◌};
-ghost use Rattle.isa.specs.Instructions.{is_illegal, is_kind};
+ghost use Rattle.isa.specs.Instructions.{is_branch, is_illegal, is_kind};
 ghost use Rattle.isa.specs.Words.{kind_of, opcode_of, named_by, register_ok, immediate_ok, known, exact, fields, pack, instr_of, fields_of, all_bits_set, decode_of, word_of, encode_of};
 ghost use Rattle.isa.specs.Inside.{clear_of};
 
@@ -120,6 +120,16 @@ pub fn is_a(kind: Kind, word: u64) -> bool
         wide8(opcode) == word / 0x100_0000_0000_0000,
         is_exact(kind, a, b, c, w),
     )
+}
+
+// Whether a word has a branch target, its w.
+pub fn is_branch(word: u64) -> bool
+    ensures { result ≡ is_branch (decode_of word) }
+{
+    if is_a(Kind::Bgt, word) {
+        return true;
+    }
+    is_a(Kind::Jd, word)
 }
 
 // The kind of a word, without decoding the rest of it: Unknown where the word is illegal.

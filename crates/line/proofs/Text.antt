@@ -11,7 +11,7 @@ use borrow.Author.Tests.{lt-ltb, le-ltb}
 use Rattle.answers.specs.declared.Place.{Place}
 use Rattle.answers.specs.Numbers.{refusal_number}
 use Rattle.parcel.specs.Parcel.{read_of}
-use Rattle.parcel.proofs.Numbers.{sets_append}
+use Rattle.lists.proofs.Places.{sets_append}
 use Rattle.line.specs.Text.{digits_of, decimal_of, Puts}
 use Rattle.line.specs.declared.Answer.{Answer}
 use Rattle.line.specs.Line.{at_text, place_text, answer_of, line_of, verdict_line, PutsLine}

@@ -20,8 +20,7 @@ use Rattle.totals.specs.declared.Totals.{Totals}
 use Rattle.totals.specs.declared.Added.{Added}
 use Rattle.totals.specs.declared.Addition.{Addition}
 use Rattle.totals.specs.Totals.{add_report}
-use Rattle.parcel.proofs.Numbers.{sets_append}
-use Rattle.parcel.proofs.Runs.{over_front}
+use Rattle.lists.proofs.Places.{over_front, sets_append}
 use Rattle.capi.specs.Words.{too_short}
 use Rattle.capi.specs.Checks.{place_after, VerdictPut}
 use Rattle.owner.specs.Reports.{figure_numbers, figures_after, largest_numbers, total_numbers, totals_in, are_totals, added_number, added_place, totals_after, ReportCall, AddCall}

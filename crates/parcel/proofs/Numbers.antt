@@ -1,12 +1,13 @@
 -- One number in bytes, over the width: it is two numbers one after the other, and it has that many bytes. By induction on the width.
 use mathlib.Core.Path.{◌≡◌, refl, sym, ap, ap₂, ◌∙◌}
-use mathlib.Core.List.{List, [], ◌∷◌, ◌++◌}
+use mathlib.Core.List.{List, ◌∷◌, ◌++◌}
 use Prim.Native.Nat.{ℕ, zero, suc, ◌+◌, ◌*◌, ◌/◌, ◌%◌, ◌^◌}
 use native.Mathlib.Omega.{arith}
-use native.Mathlib.Nat.{pow-suc, one-le-pow, zero-lt-suc, zero-add, suc-add, add-zero, add-suc, mul_assoc, mul_comm, mod-lt, div-one, div-div-eq-div-mul}
+use native.Mathlib.Nat.{pow-suc, one-le-pow, zero-lt-suc, zero-add, suc-add, add-zero, mul_assoc, mul_comm, mod-lt, div-one, div-div-eq-div-mul}
 use lib.Arith.{digits_div, digits_mod, mod-mul}
-use lib.ListN.{length, get_or, drop, set}
+use lib.ListN.{length, get_or, drop}
 use lib.Seq.{drop-drop, get_or-drop, sets}
+use Rattle.lists.proofs.Places.{sets_append}
 use Rattle.parcel.specs.Bytes.{number_of, bytes_of}
 
 number_split : (a b : ℕ) (s : List ℕ) → number_of (a + b) s ≡ number_of a s + number_of b (drop a s) * 256 ^ a
@@ -44,12 +45,6 @@ bytes_split (suc a) b x =
     ∙ ap (λ (t : List ℕ). x % 256 ∷ t) (bytes_split a b (x / 256))
     ∙ ap₂ (λ (h : ℕ) (t : List ℕ). h ∷ t) (sym (ap (λ (y : ℕ). y % 256) low ∙ digits_mod (x / 256 % 256 ^ a) byte))
     (ap₂ (λ (l h : ℕ). bytes_of a l ++ bytes_of b h) (sym (ap (λ (y : ℕ). y / 256) low ∙ digits_div (x / 256 % 256 ^ a) byte)) high)
-
-pub sets_append : (a b l : List ℕ) (i : ℕ) → sets l i (a ++ b) ≡ sets (sets l i a) (i + length a) b
-sets_append [] b l i = ap (λ (n : ℕ). sets l n b) (sym (add-zero i))
-sets_append (x ∷ a) b l i =
-    sets_append a b (set l i x) (suc i)
-    ∙ ap (λ (n : ℕ). sets (sets (set l i x) (suc i) a) n b) (suc-add i (length a) ∙ sym (add-suc i (length a)))
 
 -- the low half's bytes, then the high half's, are the number's
 pub put_halves : (w x : ℕ) (s : List ℕ) (at : ℕ) {s₁ s₂ : List ℕ} → s₁ ≡ sets s at (bytes_of w (x % 256 ^ w)) → s₂ ≡ sets s₁ (at + w) (bytes_of w (x / 256 ^ w)) → s₂ ≡ sets s at (bytes_of (w + w) x)

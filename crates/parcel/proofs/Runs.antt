@@ -1,15 +1,16 @@
 -- Numbers one after another, over the width: the loops that read and that write them. At the head of a loop, what is still to be stored makes the whole.
 use mathlib.Core.Path.{◌≡◌, refl, sym, ap, ap₂, ◌∙◌}
-use mathlib.Core.List.{List, [], ◌∷◌, ◌++◌}
+use mathlib.Core.List.{List, [], ◌∷◌}
 use Prim.Native.Nat.{ℕ, zero, suc, ◌+◌, ◌-◌, ◌*◌, ◌≤◌, ◌<◌}
 use native.Mathlib.Omega.{arith}
 use native.Mathlib.Numerals.{add-one}
-use native.Mathlib.Nat.{zero-add, add-zero, zero-mul, suc-mul, sub-zero, add_comm}
+use native.Mathlib.Nat.{add-zero, zero-mul, suc-mul, sub-zero, add_comm}
 use lib.ListN.{length, get_or, drop, set, length-set, length-append, drop_of_length-le}
-use lib.Seq.{drop-drop, drop-cons, sets, sets-eq, length-sets}
+use lib.Seq.{drop-drop, drop-cons, sets, length-sets}
 use Rattle.parcel.specs.Bytes.{number_of, bytes_of, numbers_of, all_bytes_of}
 use Rattle.lists.specs.Places.{put_over}
-use Rattle.parcel.proofs.Numbers.{length_bytes, sets_append}
+use Rattle.lists.proofs.Places.{over_front, sets_append}
+use Rattle.parcel.proofs.Numbers.{length_bytes}
 
 pub length_numbers : (w k : ℕ) (s : List ℕ) → length (numbers_of w k s) ≡ k
 unfolding numbers_of
@@ -22,10 +23,6 @@ length_all_bytes w [] = sym (zero-mul w)
 length_all_bytes w (x ∷ xs) =
     length-append (bytes_of w x) (all_bytes_of w xs) ∙ ap₂ (λ (a b : ℕ). a + b) (length_bytes w x) (length_all_bytes w xs)
     ∙ add_comm w (length xs * w) ∙ sym (suc-mul (length xs) w)
-
--- a run of stores from the front on
-pub over_front : (xs l : List ℕ) → length xs ≤ length l → sets l 0 xs ≡ put_over xs l
-over_front xs l h = sets-eq xs l 0 (omega arith) ∙ ap (λ (n : ℕ). xs ++ drop n l) (zero-add (length xs))
 
 -- reading: i of the k numbers of w bytes in s from at are stored
 pub record Reading (w : ℕ) (s : List ℕ) (at k : ℕ) (to₀ to : List ℕ) (i : ℕ) : Type 0 where

@@ -8,8 +8,9 @@ use lib.Seq.{sets}
 use Rattle.parcel.specs.Bytes.{bytes_of, all_bytes_of}
 use Rattle.lists.specs.Places.{put_over}
 use Rattle.parcel.specs.Parcel.{section_of, parcel_of}
-use Rattle.parcel.proofs.Numbers.{length_bytes, sets_append}
-use Rattle.parcel.proofs.Runs.{length_all_bytes, over_front}
+use Rattle.lists.proofs.Places.{over_front, sets_append}
+use Rattle.parcel.proofs.Numbers.{length_bytes}
+use Rattle.parcel.proofs.Runs.{length_all_bytes}
 
 pub length_section : (w p : ℕ) (xs : List ℕ) → length (section_of w p xs) ≡ 4 + length xs * w
 unfolding section_of

@@ -1,4 +1,4 @@
-// The library for C and Rust, libpost_guard.a: the calls of `capi`, `owner` and `wide` under the names that `include/post_guard.h`
+// The library for C and Rust, libpost_guard.a: the calls of `capi`, `owner`, `wide` and `installer` under the names that `include/post_guard.h`
 // declares, each with the contract of the call that it makes.
 #![tactic(auto)]
 
@@ -12,6 +12,7 @@ ghost use Rattle.report.specs.Reports.{parcel_report, report_of};
 ghost use Rattle.owner.specs.Reports.{AddCall, ReportCall};
 ghost use Rattle.editions.specs.Converters.{bytes_for, narrowed_of, widened_of};
 ghost use Rattle.wide.specs.Calls.{PutCall};
+ghost use Rattle.installer.specs.Calls.{RewriteCall};
 
 #[unsafe(no_mangle)]
 pub extern "C" fn pg_decode(word: u64, place: &mut [u32]) -> u32
@@ -227,4 +228,20 @@ pub extern "C" fn pg_narrow(
     ensures { PutCall (λ short. narrowed_of short (read_of 4 wide.now)) (bytes_for 2 (read_of 4 wide.now)) parcel.old count.old place.old result parcel.new count.new place.new }
 {
     wide::pg_narrow(wide, parcel, count, place)
+}
+
+#[unsafe(no_mangle)]
+pub extern "C" fn pg_rewrite(
+    memory: &[u64],
+    n: usize,
+    edges: &[u16],
+    code: &mut [u64],
+    new_edges: &mut [u16],
+    map: &mut [u16],
+    counts: &mut [u64],
+    place: &mut [u64],
+) -> u32
+    ensures { RewriteCall memory.now n edges.now code.old new_edges.old map.old counts.old place.old result code.new new_edges.new map.new counts.new place.new }
+{
+    installer::pg_rewrite(memory, n, edges, code, new_edges, map, counts, place)
 }

@@ -2,6 +2,9 @@
 use Rattle.isa.proofs.Words.{round_trips}
 use Rattle.machine.proofs.Theorems.{unmade_changes_nothing, past_top_stops, step_then_run}
 use Rattle.checker.proofs.Equivalence.{accepted_exactly}
+use Rattle.checker.proofs.Shown.{order_shown}
+use Rattle.guarded.proofs.Theorems.{guards_put_in}
+use Rattle.guarded.proofs.Shown.{rewrites_shown}
 use Rattle.integrity.proofs.Demand.{demand_3, stop_four_at_jumps}
 use Rattle.integrity.proofs.Traversal.{run_is_its_steps}
 use Rattle.integrity.proofs.Shown.{programs_accepted, calls_made, stop_four_shown}
@@ -20,6 +23,7 @@ use Rattle.totals.proofs.Examples.{totals_shown}
 use Rattle.capi.proofs.Unchanged.{refused_changes_nothing}
 use Rattle.owner.proofs.Unchanged.{refused_reports_change_nothing}
 use Rattle.wide.proofs.Unchanged.{refused_wide_calls_change_nothing}
+use Rattle.installer.proofs.Unchanged.{refused_rewriting_changes_nothing}
 use Rattle.promises.specs.Promises.{Promises}
 
 pub kept : Promises
@@ -32,6 +36,7 @@ kept =
       write_after_read = write_after_read;
       prefix_suffices = prefix_suffices;
       accepted_exactly = accepted_exactly;
+      order_shown = order_shown;
       step_then_run = step_then_run;
       run_is_its_steps = run_is_its_steps;
       unmade_changes_nothing = unmade_changes_nothing;
@@ -54,5 +59,8 @@ kept =
       past_top_shown = past_top_shown;
       two_editions = two_editions;
       refused_wide_calls_change_nothing = refused_wide_calls_change_nothing;
+      guards_put_in = guards_put_in;
+      rewrites_shown = rewrites_shown;
+      refused_rewriting_changes_nothing = refused_rewriting_changes_nothing;
       rows = table;
     }

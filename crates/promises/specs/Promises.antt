@@ -3,13 +3,16 @@
 --
 -- That every call ends, does nothing undefined and answers what its definition says is each function's own contract, in `src/`:
 -- `decode` is `decode_of`, `check` and `check_wide` are `verdict_of`, `step` is `step_of`, `run` is `run_of`, `read_parcel` is `read_of 2`,
--- `read_wide_parcel` is `read_of 4`, `report` is `report_of`, and so on.
+-- `read_wide_parcel` is `read_of 4`, `report` is `report_of`, `rewrite` is `rewrite_of`, and so on.
 use Rattle.std.specs.Prelude.{ℕ, List}
 use Rattle.isa.specs.declared.Technique.{Technique}
 use Rattle.isa.specs.Theorems.{RoundTrips}
 use Rattle.machine.specs.declared.State.{State}
 use Rattle.machine.specs.Theorems.{UnmadeChangesNothing, PastTopStops, StepThenRun}
 use Rattle.checker.specs.Theorems.{AcceptedExactly}
+use Rattle.checker.specs.Examples.{OrderShown}
+use Rattle.guarded.specs.Theorems.{GuardsPutIn}
+use Rattle.guarded.specs.Examples.{RewritesShown}
 use Rattle.integrity.specs.Demand.{Demand3, StopFourAtJumps, RunIsItsSteps}
 use Rattle.integrity.specs.Examples.{ProgramsAccepted, CallsMade, StopFourShown}
 use Rattle.parcel.specs.Theorems.{ReadWritten, WrittenRead, WrittenWhereRising, ReadAfterWrite, WriteAfterRead}
@@ -25,6 +28,7 @@ use Rattle.totals.specs.Examples.{TotalsShown}
 use Rattle.capi.specs.Theorems.{RefusedChangesNothing}
 use Rattle.owner.specs.Theorems.{RefusedReportsChangeNothing}
 use Rattle.wide.specs.Theorems.{RefusedWideCallsChangeNothing}
+use Rattle.installer.specs.Theorems.{RefusedRewritingChangesNothing}
 
 pub record Promises : Type 0 where
   -- Instruction words, written and read, give back each other.
@@ -41,6 +45,8 @@ pub record Promises : Type 0 where
   -- Code is accepted exactly where it meets the published conditions, plain (with the clause of K2) or with memory guards, and its edges
   -- rise (the clause of K3).
   pub accepted_exactly : AcceptedExactly
+  -- Of two faults that are neighbours in the order of the numbers, the verdict is the first.
+  pub order_shown : OrderShown
   -- A run of one step more is a step and then the run;
   pub step_then_run : (t : Technique) (n : ℕ) (memory : List ℕ) (s : State) (k : ℕ) → StepThenRun t n memory s k
   -- its count, its end and what it leaves are those of its steps one by one.
@@ -86,5 +92,15 @@ pub record Promises : Type 0 where
   pub two_editions : TwoEditions
   -- A call on the second edition from C or Rust that is refused changes nothing that was lent.
   pub refused_wide_calls_change_nothing : RefusedWideCallsChangeNothing
+  -- K7: what comes out of the rewriter is always accepted, whatever data comes to stand after it; its length is the old one plus five per
+  -- jump, one per destination and one; one edge more in the claim adds at most one word, and one edge changed moves it by at most one; the
+  -- map rises, and at the entry of each old address stands its label, then its guard, or the old word with its branch target moved; the
+  -- edges are the old ones, moved, and the ID of a set is the map of the old one. Of the definitions with memory guards the same is
+  -- proved, with the length that K13 gives.
+  pub guards_put_in : GuardsPutIn
+  -- That is about something: two programs and what comes of them, word by word.
+  pub rewrites_shown : RewritesShown
+  -- A rewriting from C or Rust that is refused leaves code, edges, map and counts as they were.
+  pub refused_rewriting_changes_nothing : RefusedRewritingChangesNothing
   -- The starred rows of document 01.
   pub rows : Table

@@ -42,14 +42,14 @@ module _ (t : Technique) (memory : List ℕ) (n : ℕ) (edges : List ℕ) (e : v
   jump_edge j l = same_bool _ _ there back
     where
       there : is_jump (instr_at memory j) ≡ true → has_edge edges j ≡ true
-      there h = not-false _ (and_rest _ _ h (clean.jumps_leave j l))
+      there h = not-false _ (and_rest _ _ h (clean.claim.jumps_leave j l))
 
       back : has_edge edges j ≡ true → is_jump (instr_at memory j) ≡ true
       back h =
           let v = has_listed edges j h in
           let k = v.1.place in
           subst (λ (x : ℕ). is_jump (instr_at memory x) ≡ true) v.1.jump
-          (not-false _ (or_right (leb n (jump_of edges k)) _ (clean.edges_start k v.1.within)))
+          (not-false _ (or_right (leb n (jump_of edges k)) _ (clean.claim.edges_start k v.1.within)))
 
   -- a jump with an edge has its ID, which is a target in code
   has_id : (j a : ℕ) → Listed edges j a → IsId edges j (id_of edges n j)
@@ -122,12 +122,12 @@ module _ (t : Technique) (memory : List ℕ) (n : ℕ) (edges : List ℕ) (e : v
 
   pub held : Held memory n edges
   held =
-      let m = and_left (memory_shaped (length memory) n) (edges_shaped (length edges)) clean.shape in
-      let g = and_right (memory_shaped (length memory) n) (edges_shaped (length edges)) clean.shape in
+      let m = and_left (memory_shaped (length memory) n) (edges_shaped (length edges)) clean.claim.shape in
+      let g = and_right (memory_shaped (length memory) n) (edges_shaped (length edges)) clean.claim.shape in
       let s = sized memory n m in
       record {
         sized = s;
-        within = within_of memory edges n s.code_limit (few_edges (length edges) g) clean.edges_start clean.edges_end;
+        within = within_of memory edges n s.code_limit (few_edges (length edges) g) clean.claim.edges_start clean.claim.edges_end;
         rises = met.edges_rise;
         jumps = jump_edge;
         guarded = λ j l h. (guard_movi j l h).0;

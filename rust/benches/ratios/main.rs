@@ -1,6 +1,6 @@
 //! Times as ratios: the library's calls, through the safe wrapper, against plain safe Rust that does the same work, both built
-//! for release, in one run. `cargo bench` prints the table of ratios, the check's time by size, and the times of the report and of
-//! the check on 32-bit edges against the check's; at last the rows that are over their goal.
+//! for release, in one run. `cargo bench` prints the table of ratios, the check's time by size, and the times of the report, of the
+//! check on 32-bit edges and of putting in guards against the check's; at last the rows that are over their goal.
 //!
 //! Like is timed with like. The plain Rust side is a call too: what is timed of it is kept out of line, here and in the
 //! reference, and state and memory are lent. No buffer is cleared between calls, for either side: places are filled once, before
@@ -9,6 +9,7 @@
 mod reference;
 mod editions;
 mod programs;
+mod rewrite;
 mod timing;
 
 use post_guard as guard;
@@ -37,9 +38,11 @@ fn main() {
     editions::parcels(&mut table, "a small parcel", small());
     editions::parcels(&mut table, "a full parcel", full());
     let against_first = editions::checks(&mut table);
+    let over_guarded = rewrite::rewrites(&mut table);
     print_growth(&growth);
     print_over_checks(&over_checks);
     editions::print_against_first(&against_first);
+    rewrite::print_over_checks(&over_guarded);
     println!("\n{}", table.told());
 }
 

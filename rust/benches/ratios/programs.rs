@@ -100,6 +100,36 @@ pub fn accepted(technique: Technique, n: usize) -> Program {
     Program { memory, n, edges }
 }
 
+/// The post program as bare code, without data.
+pub fn bare_post() -> Program {
+    let memory = [Op::Movi(5, 2), Op::Jmp(5), Op::Illegal].map(encode).to_vec();
+    Program { memory, n: 3, edges: vec![1, 2] }
+}
+
+/// Bare code that has new_n words when its guards are put in, and 64 data words: blocks of a jmp, a destination and other words,
+/// the last of them a bgt. Many edges: four words in a block, and eight blocks share a target set. Few edges: 32 words in a block,
+/// and each jmp has one target.
+pub fn bare(new_n: usize, many_edges: bool) -> Program {
+    let (length, shared) = if many_edges { (4, 8) } else { (32, 1) };
+    // a block grows by five words for its jmp and one for its destination; one illegal word comes at the end
+    let count = (new_n - 1) / (length + 6);
+    let mut code = Vec::new();
+    let mut edges = Vec::new();
+    for block in 0..count {
+        let first = block / shared * shared;
+        let at = code.len();
+        code.extend([Op::Jmp(5), Op::Movi(5, 1)]);
+        code.resize(at + length - 1, Op::Add(6, 6, 5));
+        code.push(Op::Bgt(6, 7, at as u32));
+        for target in first..(first + shared).min(count) {
+            edges.extend([at as u16, (target * length + 1) as u16]);
+        }
+    }
+    code.resize(new_n - 1 - count * 6, Op::Addi(9, 9, 1));
+    let n = code.len();
+    Program { memory: code.into_iter().map(encode).chain(0..64).collect(), n, edges }
+}
+
 /// A fault that is as late as it can be, so that the check goes through all that comes before it.
 #[derive(Clone, Copy)]
 pub enum Fault {

@@ -1,7 +1,7 @@
 use mathlib.Core.Path.{refl}
 use mathlib.Core.List.{[], ◌∷◌}
 use borrow.Author.Tests.{le-ltb}
-use Rattle.parcel.proofs.Runs.{over_front}
+use Rattle.lists.proofs.Places.{over_front}
 use Rattle.capi.proofs.States.{run_called}
 use Rattle.capi.proofs.pg_run.Goals as goal
 

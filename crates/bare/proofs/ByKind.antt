@@ -1,0 +1,68 @@
+-- What 20 and 21 ask of a word, by its kind and its bytes: a legal word's fields are its bytes, and an illegal one names nothing.
+use Prim.Native.Nat.{ℕ, ◌+◌, ◌/◌, ◌%◌, ◌^◌}
+use mathlib.Core.Path.{◌≡◌, refl, sym, ap, ◌∙◌}
+use mathlib.Core.Bool.{Bool, true, false, cond, ◌&&◌, ◌||◌}
+use mathlib.Core.List.{List, []}
+use native.Mathlib.Omega.{arith}
+use native.Mathlib.Numerals.{add-one}
+use lib.Dec.{ltb, leb}
+use Rattle.lists.specs.Search.{any}
+use Rattle.lists.proofs.Bools.{or_left, or_right}
+use Rattle.lists.proofs.Search.{lowest_none, any_none}
+use Rattle.answers.specs.declared.Verdict.{Verdict}
+use Rattle.isa.specs.declared.Kind.{Kind}
+use Rattle.isa.specs.declared.Instr.{Instr}
+use Rattle.isa.specs.Words.{named_by, exact, split, instr_of, fields_of, decode_of}
+use Rattle.isa.specs.Instructions.{instr_at, is_branch, branch_target}
+use Rattle.isa.proofs.Words.{exact_back}
+use Rattle.isa.proofs.ByKind.{branch_low, no_branch}
+use Rattle.checker.specs.Verdicts.{first_broken}
+use Rattle.checker.proofs.Rules.{kept, no_rule}
+use Rattle.guarded.specs.Rules.{is_reserved, names_reserved, is_unfit, outside, word_rules}
+use Rattle.bare.specs.Inside.{is_wrong, registers_in, names_low}
+
+-- the fields that a kind names are the first so many
+named_first : (k : Kind) (x y z : ℕ)
+    → (is_reserved (named_by k).a x || (is_reserved (named_by k).b y || is_reserved (named_by k).c z))
+    ≡ (is_reserved (ltb 0 (registers_in k)) x || (is_reserved (ltb 1 (registers_in k)) y || is_reserved (ltb 2 (registers_in k)) z))
+named_first Kind.Label x y z = refl
+named_first Kind.Add x y z = refl
+named_first Kind.Addi x y z = refl
+named_first Kind.Movi x y z = refl
+named_first Kind.Bgt x y z = refl
+named_first Kind.Jd x y z = refl
+named_first Kind.Jmp x y z = refl
+named_first Kind.Ld x y z = refl
+named_first Kind.St x y z = refl
+named_first Kind.Unknown x y z = refl
+
+pub low_by_kind : (x : ℕ) → names_low (registers_in (fields_of (decode_of x)).kind) x ≡ names_reserved (decode_of x)
+unfolding decode_of
+low_by_kind x = go (exact (split x)) refl
+  where
+    go : (b : Bool) → exact (split x) ≡ b
+        → names_low (registers_in (fields_of (cond b (instr_of (split x)) Instr.Illegal)).kind) x
+        ≡ names_reserved (cond b (instr_of (split x)) Instr.Illegal)
+    go false e = refl
+    go true e =
+        rw (exact_back (split x) e)
+        (sym (named_first (split x).kind (x / 2 ^ 48 % 256) (x / 2 ^ 40 % 256) (x / 2 ^ 32 % 256)))
+
+pub out_by_kind : (n x : ℕ) → (is_branch (decode_of x) && leb n (x % 2 ^ 32)) ≡ outside n (branch_target (decode_of x))
+out_by_kind n x = go (is_branch (decode_of x)) refl
+  where
+    go : (b : Bool) → is_branch (decode_of x) ≡ b → (is_branch (decode_of x) && leb n (x % 2 ^ 32)) ≡ outside n (branch_target (decode_of x))
+    go true e = ap (λ (b : Bool). b && leb n (x % 2 ^ 32)) e ∙ sym (ap (outside n) (branch_low x e))
+    go false e = ap (λ (b : Bool). b && leb n (x % 2 ^ 32)) e ∙ sym (ap (outside n) (no_branch (decode_of x) e))
+
+pub any_next : (f : ℕ → Bool) (k : ℕ) → (f k || any f k) ≡ any f (k + 1)
+unfolding any
+any_next f k = sym (rw add-one)
+
+-- where no word is found, 20 and 21 pass
+pub none_wrong : (memory : List ℕ) (n : ℕ) → any (λ a. is_wrong n (instr_at memory a)) n ≡ false → first_broken (word_rules memory n []) ≡ Verdict.Accepted
+none_wrong memory n e =
+    let none = any_none (λ a. is_wrong n (instr_at memory a)) n e in
+    kept _ _ n (lowest_none _ n n refl (λ a l. or_left (is_unfit (instr_at memory a)) (outside n (branch_target (instr_at memory a))) (none a l))) (omega arith)
+    ∙ kept _ _ n (lowest_none _ n n refl (λ a l. or_right (is_unfit (instr_at memory a)) (outside n (branch_target (instr_at memory a))) (none a l))) (omega arith)
+    ∙ no_rule

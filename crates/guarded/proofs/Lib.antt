@@ -1,0 +1,12 @@
+pub mod Blocks
+pub mod Cases
+pub mod Places
+pub mod Lengths
+pub mod Claims
+pub mod Fill
+pub mod Roles
+pub mod NewWords
+pub mod Accepted
+pub mod Passed
+pub mod Theorems
+pub mod Shown

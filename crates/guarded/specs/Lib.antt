@@ -1,0 +1,5 @@
+pub mod Blocks
+pub mod Rewrite
+pub mod Rules
+pub mod Theorems
+pub mod Examples

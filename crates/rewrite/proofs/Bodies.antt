@@ -1,0 +1,121 @@
+-- What the writing of a block comes to: the label, by the owner of the address, and then what stands for the word, by what it is.
+use Prim.Native.Nat.{ℕ, suc, ◌+◌, ◌-◌, ◌*◌, ◌/◌, ◌%◌, ◌^◌, ◌<◌, ◌≤◌}
+use mathlib.Core.Path.{◌≡◌, refl, sym, ap, ◌∙◌}
+use mathlib.Core.Bool.{Bool, true, false}
+use mathlib.Core.List.{List, [], ◌∷◌}
+use native.Mathlib.Omega.{arith}
+use lib.Dec.{ltb}
+use lib.ListN.{length, get_or}
+use lib.Seq.{sets, length-sets}
+use borrow.Author.Tests.{not-false}
+use Rattle.lists.specs.Search.{bit}
+use Rattle.lists.proofs.Bools.{and_rest}
+use Rattle.lists.proofs.Places.{sets_append}
+use Rattle.isa.specs.declared.Instr.{Instr}
+use Rattle.isa.specs.declared.Technique.{Technique}
+use Rattle.isa.specs.Words.{fields_of, encode_of}
+use Rattle.isa.specs.Instructions.{instr_at, is_jump, is_branch}
+use Rattle.graph.specs.Claim.{is_destination, id_of}
+use Rattle.graph.proofs.Edges.{id_below}
+use Rattle.guards.specs.Patterns as patterns
+use Rattle.guarded.specs.Rewrite.{body_size, with_target, jump_words, store_words, word_moved, label_of, set_of, label_at, block_at}
+use Rattle.guarded.proofs.Cases.{at_jump, at_other}
+use Rattle.guarded.proofs.Places.{label_length, map_next, map_le}
+use Rattle.rewrite.specs.Inside.{map_plain, length_plain, body_plain, block_plain, Ready, Labelled}
+use Rattle.rewrite.proofs.TargetSets.{owner_is, destined}
+use Rattle.rewrite.proofs.Moved.{branch_w, target_low, guard_words}
+
+pub jump_room : (i : Instr) → is_jump i ≡ true → body_size Technique.Plain i ≡ 6
+jump_room i j = at_jump Technique.Plain i 6 6 1 j
+
+pub other_room : (i : Instr) → is_jump i ≡ false → body_size Technique.Plain i ≡ 1
+other_room i j = at_other Technique.Plain i 6 6 1 j refl
+
+module _ (memory : List ℕ) (n : ℕ) (edges : List ℕ) (total : ℕ) (entries ids own : List ℕ) (r : Ready memory n edges total entries ids own)
+    (a : ℕ) (l : a < n) where
+  abbrev i : Instr
+  i = instr_at memory a
+
+  -- the three cases of the body
+  abbrev when_jump : List ℕ
+  when_jump = jump_words Technique.Plain (length_plain memory n edges) (map_plain memory n edges (id_of edges n a)) i
+
+  abbrev when_store : List ℕ
+  when_store = store_words (length_plain memory n edges) (length_plain memory n edges + (length memory - n)) i
+
+  abbrev otherwise : List ℕ
+  otherwise = word_moved (map_plain memory n edges) (get_or memory a 0) i ∷ []
+
+  entry : (x : ℕ) → x < n + 1 → get_or entries x 0 ≡ map_plain memory n edges x
+  entry x h = r.entries_are.each x h
+
+  -- the label
+  label_put : label_of (ltb (get_or own a 0) n) (get_or entries (get_or own a 0) 0) ≡ label_at Technique.Plain memory n edges (length memory - n) a
+  label_put = go (is_destination edges a) refl
+    where
+      go : (d : Bool) → is_destination edges a ≡ d
+          → label_of (ltb (get_or own a 0) n) (get_or entries (get_or own a 0) 0) ≡ label_of (is_destination edges a) (map_plain memory n edges (set_of edges n a))
+      go true e =
+          let o = owner_is edges n own r.owned a e in
+          rw (destined edges n own r.owned a l, o.0, entry (set_of edges n a) (omega (arith, o.1)))
+      go false e = rw (destined edges n own r.owned a l, e)
+
+  -- the ID of a jump's set
+  pub jump_id : is_jump i ≡ true → (get_or ids a 0 < n) × (get_or entries (get_or ids a 0) 0 ≡ map_plain memory n edges (id_of edges n a))
+  jump_id j =
+      let e = r.ids_are.each a l in
+      let b = id_below edges n r.bare.claim.within a (not-false _ (and_rest (is_jump i) _ j (r.bare.claim.leaving a l))) in
+      (omega (arith, e, b), ap (λ (x : ℕ). get_or entries x 0) e ∙ entry (id_of edges n a) (omega (arith, b)))
+
+  pub jump_put : (words : List ℕ) (apart : ℕ) → is_jump i ≡ true → words ≡ patterns.jump_words Technique.Plain total
+      → apart ≡ encode_of (Instr.Movi 2 (get_or entries (get_or ids a 0) 0))
+      → (get_or words 0 0 + get_or memory a 0 / 2 ^ 48 % 256 * 2 ^ 40) ∷ get_or words 1 0 ∷ apart ∷ get_or words 3 0 ∷ get_or words 4 0 ∷ get_or words 5 0 ∷ []
+      ≡ body_plain memory n edges a
+  jump_put words apart j ew ea =
+      guard_words (get_or memory a 0) total (map_plain memory n edges (id_of edges n a)) words apart j ew (ea ∙ ap (λ (x : ℕ). encode_of (Instr.Movi 2 x)) (jump_id j).1)
+      ∙ ap (λ (m : ℕ). jump_words Technique.Plain m (map_plain memory n edges (id_of edges n a)) i) r.total_is
+      ∙ sym (at_jump Technique.Plain i when_jump when_store otherwise j)
+
+  pub branch_put : is_jump i ≡ false → is_branch i ≡ true
+      → encode_of (with_target i (get_or entries (fields_of i).w 0)) ∷ [] ≡ body_plain memory n edges a
+  branch_put j b =
+      let low = target_low (get_or memory a 0) n b (r.bare.branches a l) in
+      let at = entry (fields_of i).w (omega (arith, low, branch_w (get_or memory a 0) b)) in
+      sym (at_other Technique.Plain i when_jump when_store otherwise j refl ∙ rw (b, at))
+
+  pub other_put : is_jump i ≡ false → is_branch i ≡ false → get_or memory a 0 ∷ [] ≡ body_plain memory n edges a
+  other_put j b = sym (at_other Technique.Plain i when_jump when_store otherwise j refl ∙ rw b)
+
+  -- there is room
+  pub room : get_or entries a 0 + bit (ltb (get_or own a 0) n) + body_size Technique.Plain i ≤ total - 1
+  room =
+      omega (
+        arith,
+        entry a (omega arith),
+        ap bit (destined edges n own r.owned a l),
+        map_next Technique.Plain memory edges a,
+        map_le Technique.Plain memory edges (suc a) n l,
+        r.total_is,
+      )
+
+  pub body_room : {code code₁ : List ℕ} {at behind owner : ℕ} → at ≡ get_or entries a 0 → owner ≡ get_or own a 0
+      → Labelled behind code₁ code at (ltb owner n) (get_or entries owner 0) → total ≤ length code
+      → behind + body_size Technique.Plain i ≤ length code₁
+  body_room {code} {at = at} {owner = owner} e o p h =
+      let same = ap length p.left ∙ length-sets code at (label_of (ltb owner n) (get_or entries owner 0)) in
+      let next = p.behind ∙ ap (λ (x : ℕ). at + bit (ltb x n)) o in
+      omega (arith, same, next, e, room, h)
+
+  -- the block, from what the two functions leave
+  pub block_put : {code code₁ code₂ : List ℕ} {at behind owner : ℕ} → at ≡ get_or entries a 0 → owner ≡ get_or own a 0
+      → Labelled behind code₁ code at (ltb owner n) (get_or entries owner 0)
+      → code₂ ≡ sets code₁ behind (body_plain memory n edges a)
+      → code₂ ≡ sets code (map_plain memory n edges a) (block_plain memory n edges a)
+  unfolding block_at
+  block_put {code} e o p q =
+      let d = destined edges n own r.owned a l in
+      let z = label_length (is_destination edges a) (map_plain memory n edges (set_of edges n a)) in
+      q
+      ∙ rw (p.left, p.behind, o, label_put, d, e, entry a (omega arith), ← z)
+      (sym
+      (sets_append (label_at Technique.Plain memory n edges (length memory - n) a) (body_plain memory n edges a) code (map_plain memory n edges a)))

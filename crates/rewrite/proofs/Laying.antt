@@ -1,0 +1,119 @@
+-- Blocks put one after the other into a lent place, over any blocks: code, edges and map are all put so. And the array of entries, one more
+-- at a time.
+use Prim.Native.Nat.{ℕ, suc, ◌+◌, ◌-◌, ◌*◌, ◌<◌, ◌≤◌}
+use mathlib.Core.Path.{◌≡◌, refl, sym, ap, subst, ◌∙◌}
+use mathlib.Core.List.{List, [], ◌∷◌, ◌++◌}
+use native.Mathlib.Omega.{arith}
+use native.Mathlib.Numerals.{add-one}
+use native.Mathlib.Decide.{ℕ_discrete}
+use lib.ListN.{length, get_or, set, length-set}
+use lib.Seq.{sets, length-sets, get_or-set_same, get_or-set_other}
+use Rattle.lists.specs.Tables.{Table}
+use Rattle.lists.proofs.Places.{sets_append}
+use Rattle.isa.specs.declared.Technique.{Technique}
+use Rattle.graph.specs.Claim.{jump_of, target_of}
+use Rattle.guarded.specs.Blocks.{start_of, laid}
+use Rattle.guarded.specs.Rewrite.{block_size, new_edge}
+use Rattle.guarded.proofs.Blocks.{start_next, start_ones, laid_length, sets_laid}
+use Rattle.guarded.proofs.Places.{map_lt}
+use Rattle.guarded.proofs.Claims.{pair, start_pairs}
+use Rattle.rewrite.specs.Inside.{map_plain, Laid}
+
+-- the first a blocks are put
+pub record Putting (block : ℕ → List ℕ) (before out : List ℕ) (a : ℕ) : Type 0 where
+  pub long : length out ≡ length before
+  pub left : out ≡ sets before 0 (laid block a)
+
+module _ (block : ℕ → List ℕ) (size : ℕ → ℕ) (fit : (a : ℕ) → length (block a) ≡ size a) where
+  pub put_none : (before : List ℕ) → Putting block before before 0
+  unfolding laid
+  put_none before = record { long = refl; left = refl }
+
+  pub put_more : {before out next : List ℕ} {a : ℕ} → Putting block before out a → next ≡ sets out (start_of size a) (block a)
+      → Putting block before next (a + 1)
+  put_more {before} {out} {next} {a} p e =
+      record {
+        long = ap length e ∙ length-sets out (start_of size a) (block a) ∙ p.long;
+        left = e ∙ ap (λ (l : List ℕ). sets l (start_of size a) (block a)) p.left ∙ sym (sets_laid block size fit before a);
+      }
+
+  pub put_all : {before out : List ℕ} {a m : ℕ} → Putting block before out a → a ≡ m → out ≡ sets before 0 (laid block m)
+  put_all {before} {out} {a} {m} p e = p.left ∙ ap (λ (x : ℕ). sets before 0 (laid block x)) e
+
+  -- and one number behind them
+  pub end_put : {before out : List ℕ} {a m : ℕ} (at x : ℕ) → Putting block before out a → a ≡ m → at ≡ start_of size m
+      → set out at x ≡ sets before 0 (laid block m ++ (x ∷ []))
+  end_put {before} {out} {a} {m} at x p e z =
+      let q : at ≡ 0 + length (laid block m) = omega (arith, laid_length block size fit m) in
+      ap (λ (l : List ℕ). set l at x) (put_all p e)
+      ∙ ap (λ (y : ℕ). set (sets before 0 (laid block m)) y x) q
+      ∙ sym (sets_append (laid block m) (x ∷ []) before 0)
+
+-- six stores in a row
+pub six_put : (l : List ℕ) (at u v w x y z : ℕ)
+    → set (set (set (set (set (set l at u) (at + 1) v) (at + 2) w) (at + 3) x) (at + 4) y) (at + 5) z
+    ≡ sets l at (u ∷ v ∷ w ∷ x ∷ y ∷ z ∷ [])
+six_put l at u v w x y z =
+    let a : at + 1 ≡ suc at = omega arith in
+    let b : at + 2 ≡ suc (suc at) = omega arith in
+    let c : at + 3 ≡ suc (suc (suc at)) = omega arith in
+    let d : at + 4 ≡ suc (suc (suc (suc at))) = omega arith in
+    let e : at + 5 ≡ suc (suc (suc (suc (suc at)))) = omega arith in
+    rw (a, b, c, d, e) refl
+
+-- one entry of the map more, and one edge
+module _ (memory : List ℕ) (n : ℕ) (edges entries : List ℕ) (t : Table entries (n + 1) (map_plain memory n edges)) where
+  pub entry_above : (j : ℕ) → j < n → 1 ≤ get_or entries (j + 1) 0
+  entry_above j l = omega (arith, t.each (j + 1) (omega arith), map_lt Technique.Plain memory edges 0 (j + 1) (omega arith))
+
+  pub map_more : {before out : List ℕ} {a : ℕ} → Putting (λ x. map_plain memory n edges x ∷ []) before out a → a < n
+      → Putting (λ x. map_plain memory n edges x ∷ []) before (set out a (get_or entries a 0)) (a + 1)
+  map_more {before} {out} {a} p l =
+      put_more (λ x. map_plain memory n edges x ∷ []) (λ _. 1) (λ _. refl) p (rw (start_ones a, t.each a (omega arith)) refl)
+
+  pub edge_more : {before out : List ℕ} {k j x : ℕ} → Putting (new_edge Technique.Plain memory edges) before out k → j ≡ jump_of edges k → j < n
+      → x ≡ target_of edges k → x < n
+      → Putting (new_edge Technique.Plain memory edges) before (set (set out (2 * k) (get_or entries (j + 1) 0 - 1)) (2 * k + 1) (get_or entries x 0)) (k + 1)
+  unfolding new_edge
+  edge_more {before} {out} {k} {j} {x} p ej lj ex lx =
+      put_more (new_edge Technique.Plain memory edges) (λ _. 2) (pair Technique.Plain memory edges) p
+      (rw (start_pairs k, t.each (j + 1) (omega arith), t.each x (omega arith), ej, ex, add-one, add-one) refl)
+
+-- one entry more
+pub table_grow : {xs : List ℕ} {n : ℕ} (F : ℕ → ℕ) (v : ℕ) → Table xs n F → n < 2048 → v ≡ F n → Table (set xs n v) (n + 1) F
+table_grow {xs} {n} F v h l e = record { size = length-set xs n v ∙ h.size; each = λ j q. go j q (ℕ_discrete j n) }
+  where
+    go : (j : ℕ) → j < n + 1 → Dec (j ≡ n) → get_or (set xs n v) j 0 ≡ F j
+    go j q (yes p) =
+        subst (λ (x : ℕ). get_or (set xs n v) x 0 ≡ F x) (sym p) (get_or-set_same xs n v 0 (let z = h.size in omega arith) ∙ e)
+    go j q (no p) = get_or-set_other xs n j v 0 p ∙ h.each j (omega arith)
+
+-- the entries of the first a addresses are there, and the next block begins at `at`
+pub record Entering (memory : List ℕ) (n : ℕ) (edges entries : List ℕ) (at a : ℕ) : Type 0 where
+  pub upto : a ≤ n
+  pub next : at ≡ map_plain memory n edges a
+  pub small : at ≤ 7 * a
+  pub filled : Table entries a (map_plain memory n edges)
+
+module _ (memory : List ℕ) (n : ℕ) (edges : List ℕ) where
+  pub entry_none : (entries : List ℕ) → length entries ≡ 2048 → Entering memory n edges entries 0 0
+  unfolding start_of
+  entry_none entries e =
+      record { upto = omega arith; next = refl; small = omega arith; filled = record { size = e; each = λ j l. absurd (omega arith) } }
+
+  pub entry_more : (entries : List ℕ) (at a size : ℕ) → n ≤ 2048 → Entering memory n edges entries at a → a < n
+      → (size ≡ block_size Technique.Plain memory edges a) × (size ≤ 7) → Entering memory n edges (set entries a at) (at + size) (a + 1)
+  entry_more entries at a size s m l z =
+      record {
+        upto = omega arith;
+        next = rw add-one (omega (arith, m.next, z.0, start_next (block_size Technique.Plain memory edges) a));
+        small = omega (arith, m.small, z.1);
+        filled = table_grow (map_plain memory n edges) at m.filled (omega arith) m.next;
+      }
+
+  pub entry_all : (entries : List ℕ) (at a : ℕ) → Entering memory n edges entries at a → a ≡ n → Laid (at + 1) entries memory n edges
+  entry_all entries at a m e =
+      record {
+        total_is = ap (λ (x : ℕ). x + 1) (m.next ∙ ap (map_plain memory n edges) e);
+        entries_are = subst (λ (x : ℕ). Table entries x (map_plain memory n edges)) e m.filled;
+      }

@@ -1,0 +1,5 @@
+pub mod TargetSets
+pub mod Moved
+pub mod Laying
+pub mod Bodies
+pub mod Verdicts

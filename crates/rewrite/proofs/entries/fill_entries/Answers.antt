@@ -1,0 +1,10 @@
+use Rattle.rewrite.proofs.Laying.{entry_none, entry_more}
+use Rattle.rewrite.proofs.entries.fill_entries.Goals as goal
+
+pub loop-a-init : goal.loop-a-init
+loop-a-init c =
+    entry_none _ _ _ _ c.requires.2
+
+pub loop-a-preserved : goal.loop-a-preserved
+loop-a-preserved c =
+    entry_more _ _ _ _ _ _ _ c.requires.1.within.small c.loop-a.invariant c.loop-a-test.true c.block_size-at.ensures
