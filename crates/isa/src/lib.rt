@@ -31,6 +31,7 @@ pub enum Technique {
 
 // Each arm tests the form of its own kind: with a constant kind the compiler leaves only the tests that this kind needs.
 #[tactic(auto, using(crate::proofs::Words::decode_arm, crate::proofs::Words::decode_unknown))]
+#[inline(always)]
 pub fn decode(word: u64) -> Instr
     ensures { result ≡ decode_of word }
 {
