@@ -8,6 +8,5 @@ use Rattle.bare.proofs.some_wrong.Given as goal
 abbrev pub invariant-loop-a : goal.invariant-loop-a
 invariant-loop-a l = (l.a ≤ l.n) × (l.found ≡ any (λ k. is_wrong l.n (instr_at l.memory k)) l.a)
 
--- proposed from the loop's first test
 abbrev pub decreases-loop-a : goal.decreases-loop-a
 decreases-loop-a l = l.n - l.a

@@ -1,3 +1,4 @@
+-- `capi::pg_run` meets its contract: each return by the tests that led there, and the run on the lent words (`States`).
 use mathlib.Core.Path.{refl}
 use mathlib.Core.List.{[], ◌∷◌}
 use borrow.Author.Tests.{le-ltb}

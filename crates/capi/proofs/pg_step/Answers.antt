@@ -1,3 +1,4 @@
+-- `capi::pg_step` meets its contract: the run with limit 1 that it makes is a step (`States`).
 use mathlib.Core.Path.{refl}
 use Rattle.capi.proofs.States.{step_called}
 use Rattle.capi.proofs.pg_step.Goals as goal

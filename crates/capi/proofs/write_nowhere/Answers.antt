@@ -1,3 +1,4 @@
+-- `write_nowhere` meets its contract: no parcel fits into one byte.
 use mathlib.Core.Path.{refl}
 use Rattle.capi.proofs.Parcels.{nowhere}
 use Rattle.capi.proofs.write_nowhere.Goals as goal

@@ -1,3 +1,4 @@
+-- `check_edges` meets its contract: rule by rule, the first with a fault answers.
 use Rattle.lists.proofs.Search.{clean_of}
 use Rattle.graph.proofs.Edges.{within_of}
 use Rattle.rising.proofs.Rising.{clean_rising}

@@ -1,3 +1,4 @@
+-- `check_guards` meets its contract: rule by rule, the first with a fault answers.
 use mathlib.Core.Path.{sym, ◌∙◌}
 use Rattle.lists.proofs.Search.{clean_of}
 use Rattle.checker.proofs.Rules.{broken, kept, no_rule}

@@ -1,3 +1,4 @@
+-- `check_sets` meets its contract: rule by rule, the first with a fault answers.
 use Rattle.lists.proofs.Search.{clean_of}
 use Rattle.lists.proofs.Tables.{table_new}
 use Rattle.std.proofs.Common.{sym, ◌∙◌}

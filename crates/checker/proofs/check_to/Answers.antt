@@ -1,3 +1,4 @@
+-- `check_to` meets its contract: number 6 first, then the other rules.
 use mathlib.Core.Path.{sym, ap, ◌∙◌}
 use mathlib.Core.Bool.{not}
 use Rattle.checker.proofs.Rules.{kept_once}

@@ -1,3 +1,4 @@
+-- `check_wide` meets its contract: number 6 first, then the check on numbers that are cut, which get the same verdict (`Outside`).
 use Rattle.std.proofs.Common.{◌≡◌, ◌∙◌, true, length, take, sym, ap}
 use Rattle.std.proofs.Math.Seq.{take_at}
 use Rattle.answers.specs.Shape.{call_shaped}

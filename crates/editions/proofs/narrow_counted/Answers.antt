@@ -1,3 +1,4 @@
+-- `narrow_counted` meets its contract: each return by the tests that led there, and three pieces are the parcel of the other edition (`Converted`).
 use Rattle.std.proofs.Common.{sym}
 use Rattle.parcel.specs.Theorems.{AllBelow}
 use Rattle.parcel.proofs.ReaderAnswers.{whole}

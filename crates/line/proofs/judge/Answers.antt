@@ -1,3 +1,4 @@
+-- `line::judge` meets its contract: what the reader ensures, handed to the laws of places of 4,096.
 use Rattle.std.proofs.Common.{refl, sym, ◌∙◌}
 use Rattle.line.proofs.Places.{judge_refused, judge_read}
 use Rattle.line.proofs.judge.Goals as goal

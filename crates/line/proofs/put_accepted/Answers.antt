@@ -1,3 +1,4 @@
+-- `line::put_accepted` meets its contract: one piece after another.
 use Rattle.line.specs.Line.{line_of}
 use Rattle.line.proofs.Text.{puts_then}
 use Rattle.line.proofs.put_accepted.Goals as goal

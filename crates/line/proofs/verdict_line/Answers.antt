@@ -1,3 +1,4 @@
+-- `line::verdict_line` meets its contract: in each arm the answer is known; a line of either kind fits.
 use Rattle.std.proofs.Common.{sym, ◌∙◌}
 use Rattle.line.proofs.Text.{puts_line}
 use Rattle.line.proofs.verdict_line.Goals as goal

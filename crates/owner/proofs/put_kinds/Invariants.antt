@@ -13,6 +13,5 @@ use Rattle.owner.proofs.put_kinds.Given as goal
 abbrev pub invariant-loop-i : goal.invariant-loop-i
 invariant-loop-i l = (l.i ≤ 10) × (length l.place ≡ length l.initial.place) × (sets l.initial.place 0 l.kinds ≡ sets l.place l.i (drop l.i l.kinds))
 
--- proposed from the loop's first test
 abbrev pub decreases-loop-i : goal.decreases-loop-i
 decreases-loop-i l = 10 - l.i

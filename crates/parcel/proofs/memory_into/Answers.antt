@@ -1,3 +1,4 @@
+-- `parcel::memory_into` meets its contract: code at the front, and data in the part after it (`put_after`).
 use Rattle.std.proofs.Common.{drop, arith}
 use Rattle.parcel.specs.Bytes.{numbers_of}
 use Rattle.parcel.proofs.Runs.{length_numbers}

@@ -1,3 +1,4 @@
+-- `parcel::read_wide_parcel` meets its contract: nothing is put where the answer is a refusal, and code, data and edges where it is none (`ReaderAnswers`).
 use Rattle.std.proofs.Common.{sym, ◌∙◌, arith, length}
 use Rattle.parcel.proofs.ReaderAnswers.{fitting, read_put}
 use Rattle.parcel.proofs.read_wide_parcel.Goals as goal

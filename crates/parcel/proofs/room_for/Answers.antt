@@ -1,3 +1,4 @@
+-- `parcel::room_for` meets its contract: what the counts say of the bytes (`whole`), and each return by the tests that led there (`ReaderAnswers`).
 use Rattle.std.proofs.Common.{sym, ◌∙◌, arith}
 use Rattle.parcel.specs.Parcel.{width_of}
 use Rattle.parcel.proofs.ReaderAnswers.{Whole, whole, none_short}

@@ -1,3 +1,4 @@
+-- `parcel::write_wide_parcel` meets its contract: nothing is put where the answer is a refusal (`WriterAnswers`), and where it is none the three sections are the parcel (`Sections`).
 use Rattle.std.proofs.Common.{◌≡◌, ◌∙◌, ◌+◌, ◌-◌, ◌*◌, ◌≤◌, ℕ, true, List, length, take, drop, sym, ap, arith, length-drop}
 use Rattle.std.proofs.lemmas.List.Edits.{sets}
 use Rattle.std.proofs.Math.Seq.{take_all}

@@ -1,3 +1,4 @@
+-- `report::report_parcel` meets its contract: what the reader ensures, handed to the laws of places of 4,096.
 use Rattle.std.proofs.Common.{rules, ◌≡◌, ◌+◌, ◌*◌, ◌≤◌, length, take, ℕ, ◌-◌, ◌<◌, ◌/◌, ◌%◌, Bool, true, false, nat_eq, nat_lt, List, [], ◌∷◌, ◌++◌, slice_index_or, slice_set, bit_and, bit_or, Fits, w8, w32, w64, Bor, MutBor}
 use Rattle.report.specs.Reports.{refused_report, report_of, parcel_report}
 use mathlib.Core.Path.{refl, sym, ◌∙◌}

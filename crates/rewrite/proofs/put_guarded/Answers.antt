@@ -1,3 +1,4 @@
+-- `put_guarded` meets its contract: 5 where a place is short, and else the three places written (`Verdicts`).
 use native.Mathlib.Omega.{arith}
 use Rattle.rewrite.proofs.Verdicts.{ready_below, places_long, all_put}
 use Rattle.rewrite.proofs.put_guarded.Goals as goal

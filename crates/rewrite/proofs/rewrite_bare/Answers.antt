@@ -1,3 +1,4 @@
+-- `rewrite_bare` meets its contract: the arrays are filled, and 22 is decided by the length that the filling tells.
 use native.Mathlib.Omega.{arith}
 use Rattle.lists.proofs.Tables.{table_new}
 use Rattle.rewrite.proofs.Laying.{table_grow}

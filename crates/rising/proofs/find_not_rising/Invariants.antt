@@ -6,6 +6,5 @@ use Rattle.rising.proofs.find_not_rising.Given as goal
 abbrev pub invariant-loop-k : goal.invariant-loop-k
 invariant-loop-k l = Passed (2 ^ 16) l.edges l.before l.k
 
--- proposed from the loop's first test
 abbrev pub decreases-loop-k : goal.decreases-loop-k
 decreases-loop-k l = l.m - l.k

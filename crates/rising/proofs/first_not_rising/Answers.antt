@@ -1,3 +1,4 @@
+-- `first_not_rising` meets its contract: where no edge falls, the search would pass them all.
 use Rattle.std.proofs.Common.{sym, ◌∙◌, refl}
 use mathlib.Core.Path.{refl, sym, ◌∙◌}
 use Rattle.lists.proofs.Search.{lowest_none, any_none}

@@ -6,6 +6,5 @@ use Rattle.rising.proofs.first_not_rising_wide.Given as goal
 abbrev pub invariant-loop-k : goal.invariant-loop-k
 invariant-loop-k l = Passed (2 ^ 32) l.edges l.before l.k
 
--- proposed from the loop's first test
 abbrev pub decreases-loop-k : goal.decreases-loop-k
 decreases-loop-k l = l.m - l.k

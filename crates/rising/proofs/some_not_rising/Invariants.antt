@@ -8,6 +8,5 @@ use Rattle.rising.proofs.some_not_rising.Given as goal
 abbrev pub invariant-loop-k : goal.invariant-loop-k
 invariant-loop-k l = (1 ≤ l.k) × (l.k ≤ l.m) × (l.found ≡ any (not_rising l.edges) l.k) × IsRank (2 ^ 16) l.before l.edges (l.k - 1)
 
--- proposed from the loop's first test
 abbrev pub decreases-loop-k : goal.decreases-loop-k
 decreases-loop-k l = l.m - l.k

@@ -1,3 +1,4 @@
+-- `pg_narrow` meets its contract: the part of the place that may be used is all of it, or none (`Calls`).
 use Rattle.parcel.specs.Parcel.{read_of}
 use Rattle.wide.proofs.Calls.{careful_narrow, put_done}
 use Rattle.wide.proofs.pg_narrow.Goals as goal

@@ -1,3 +1,4 @@
+-- `pg_write_wide_parcel` meets its contract: the part of the place that may be used is all of it, or none (`Calls`).
 use Rattle.wide.proofs.Calls.{careful_writer, put_done}
 use Rattle.wide.proofs.pg_write_wide_parcel.Goals as goal
 

@@ -8,6 +8,5 @@ use Rattle.checker.proofs.branches.ends_near.Given as goal
 abbrev pub invariant-loop-a : goal.invariant-loop-a
 invariant-loop-a l = (l.w ≤ l.a) × (l.a ≤ l.end) × Clean (near_at (ending_kind l.store) l.memory l.len l.w) l.a
 
--- proposed from the loop's first test
 abbrev pub decreases-loop-a : goal.decreases-loop-a
 decreases-loop-a l = l.end - l.a

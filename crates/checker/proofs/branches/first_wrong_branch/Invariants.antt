@@ -7,6 +7,5 @@ use Rattle.checker.proofs.branches.first_wrong_branch.Given as goal
 abbrev pub invariant-loop-a : goal.invariant-loop-a
 invariant-loop-a l = (l.a ≤ l.n) × Clean (branch_wrong l.technique l.memory l.n l.edges) l.a
 
--- proposed from the loop's first test
 abbrev pub decreases-loop-a : goal.decreases-loop-a
 decreases-loop-a l = l.n - l.a

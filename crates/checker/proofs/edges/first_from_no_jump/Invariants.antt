@@ -7,6 +7,5 @@ use Rattle.checker.proofs.edges.first_from_no_jump.Given as goal
 abbrev pub invariant-loop-k : goal.invariant-loop-k
 invariant-loop-k l = (l.k ≤ l.m) × Clean (starts_at_no_jump l.memory l.n l.edges) l.k
 
--- proposed from the loop's first test
 abbrev pub decreases-loop-k : goal.decreases-loop-k
 decreases-loop-k l = l.m - l.k

@@ -8,6 +8,5 @@ use Rattle.checker.proofs.edges.first_without_edge.Given as goal
 abbrev pub invariant-loop-a : goal.invariant-loop-a
 invariant-loop-a l = (l.a ≤ l.n) × Clean (lacks_edge l.memory l.edges) l.a × Cut l.edges l.a l.k
 
--- proposed from the loop's first test
 abbrev pub decreases-loop-a : goal.decreases-loop-a
 decreases-loop-a l = l.n - l.a

@@ -7,6 +7,5 @@ use Rattle.checker.proofs.labels.first_label_wrong.Given as goal
 abbrev pub invariant-loop-a : goal.invariant-loop-a
 invariant-loop-a l = (l.a ≤ l.n) × Clean (label_wrong l.memory l.n l.edges) l.a
 
--- proposed from the loop's first test
 abbrev pub decreases-loop-a : goal.decreases-loop-a
 decreases-loop-a l = l.n - l.a

@@ -7,6 +7,5 @@ use Rattle.checker.proofs.sets.first_contested.Given as goal
 abbrev pub invariant-loop-k : goal.invariant-loop-k
 invariant-loop-k l = (l.k ≤ l.m) × ((i : ℕ) → 0 ≤ i → i < l.k → get_or l.own (target_of l.edges i) 0 ≢ l.n + 1)
 
--- proposed from the loop's first test
 abbrev pub decreases-loop-k : goal.decreases-loop-k
 decreases-loop-k l = l.m - l.k

@@ -1,3 +1,4 @@
+-- `sets::fits` meets its contract: each return by the questions asked so far.
 use Rattle.std.proofs.Common.{get_or, ℕ}
 use mathlib.Core.Path.{ap}
 use Rattle.checker.proofs.TargetSets.{told, unlike_broken}

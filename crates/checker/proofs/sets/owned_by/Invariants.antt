@@ -6,6 +6,5 @@ use Rattle.checker.proofs.sets.owned_by.Given as goal
 abbrev pub invariant-loop-i : goal.invariant-loop-i
 invariant-loop-i l = (l.k ≤ l.i) × (l.i ≤ l.end) × ((x : ℕ) → l.k ≤ x → x < l.i → get_or l.own (target_of l.edges x) 0 ≡ l.owner)
 
--- proposed from the loop's first test
 abbrev pub decreases-loop-i : goal.decreases-loop-i
 decreases-loop-i l = l.end - l.i

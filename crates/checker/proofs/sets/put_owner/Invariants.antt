@@ -8,6 +8,5 @@ use Rattle.checker.proofs.sets.put_owner.Given as goal
 abbrev pub invariant-loop-i : goal.invariant-loop-i
 invariant-loop-i l = (l.k ≤ l.i) × (l.i ≤ l.end) × Table l.own l.n (λ t. cond (edge_in l.edges l.i (jump_of l.edges l.k) t) l.owner (get_or l.initial.own t 0))
 
--- proposed from the loop's first test
 abbrev pub decreases-loop-i : goal.decreases-loop-i
 decreases-loop-i l = l.end - l.i

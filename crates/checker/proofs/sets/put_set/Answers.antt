@@ -1,3 +1,4 @@
+-- `sets::put_set` meets its contract: the set is contested, there already, or put in.
 use mathlib.Core.Path.{refl}
 use Rattle.checker.proofs.TargetSets.{told, put_broken, put_new}
 use Rattle.checker.proofs.sets.put_set.Goals as goal

@@ -9,6 +9,5 @@ use Rattle.checker.proofs.sets.put_sets.Given as goal
 abbrev pub invariant-loop-k : goal.invariant-loop-k
 invariant-loop-k l = (a : ℕ) × (a ≤ l.n) × Cut l.edges a l.k × Put l.edges l.n a l.own l.size × (l.fitting ≡ true → (t : ℕ) → t < l.n → get_or l.own t 0 ≢ l.n + 1)
 
--- proposed from the loop's first test
 abbrev pub decreases-loop-k : goal.decreases-loop-k
 decreases-loop-k l = l.m - l.k

@@ -9,6 +9,5 @@ use Rattle.checker.proofs.unguarded.first_bare_jump.Given as goal
 abbrev pub invariant-loop-k : goal.invariant-loop-k
 invariant-loop-k l = ((a : ℕ) × Cut l.edges a l.k) × ((i : ℕ) → i < l.k → jump_unguarded l.technique l.memory l.n l.edges (jump_of l.edges i) ≡ false)
 
--- proposed from the loop's first test
 abbrev pub decreases-loop-k : goal.decreases-loop-k
 decreases-loop-k l = l.m - l.k

@@ -8,6 +8,5 @@ use Rattle.checker.proofs.unguarded.first_store_unguarded.Given as goal
 abbrev pub invariant-loop-a : goal.invariant-loop-a
 invariant-loop-a l = (l.a ≤ l.n) × Clean (store_unguarded Technique.MemoryGuards l.memory l.n) l.a
 
--- proposed from the loop's first test
 abbrev pub decreases-loop-a : goal.decreases-loop-a
 decreases-loop-a l = l.n - l.a

@@ -1,3 +1,4 @@
+-- `unguarded::is_bare_store` meets its contract: the arrays hold the sequence.
 use Rattle.std.proofs.Common.{length}
 use native.Mathlib.Omega.{arith}
 use borrow.Author.Tests.{lt-ltb}

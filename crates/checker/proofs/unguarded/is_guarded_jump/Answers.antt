@@ -1,3 +1,4 @@
+-- `unguarded::is_guarded_jump` meets its contract: the array, with the word apart, holds the sequence.
 use native.Mathlib.Omega.{arith}
 use Rattle.guards.proofs.Arrays.{jump_kept, jump_length_low}
 use Rattle.checker.proofs.unguarded.is_guarded_jump.Goals as goal

@@ -1,3 +1,4 @@
+-- `cut_into` meets its contract: what is still to be stored makes the whole (`Cutting`).
 use Rattle.std.proofs.Common.{◌-◌, length}
 use Rattle.editions.proofs.Outside.{Cutting}
 use Rattle.editions.proofs.cut.cut_into.Given as goal

@@ -1,3 +1,4 @@
+-- `copy` meets its contract: the loop over numbers of one byte (`Converting`).
 use Rattle.std.proofs.Common.{◌-◌}
 use Rattle.editions.proofs.Converting.{Converting}
 use Rattle.editions.proofs.numbers.copy.Given as goal

@@ -1,3 +1,4 @@
+-- `first_wide` meets its contract: no edge passed has an address above 65,535.
 use Rattle.std.proofs.Common.{◌*◌, ◌-◌, ◌≤◌, drop}
 use Rattle.lists.proofs.Search.{Clean}
 use Rattle.parcel.specs.Bytes.{numbers_of}

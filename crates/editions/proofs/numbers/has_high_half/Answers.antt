@@ -1,3 +1,4 @@
+-- `has_high_half` meets its contract: the sum of the two high halves is 0 where each of them is.
 use Rattle.std.proofs.Common.{◌+◌, ◌∙◌, nat_lt}
 use Rattle.editions.proofs.Converting.{edge_high}
 use Rattle.editions.proofs.numbers.has_high_half.Goals as goal

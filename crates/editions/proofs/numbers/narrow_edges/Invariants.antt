@@ -1,3 +1,4 @@
+-- `narrow_edges` meets its contract: the loop over numbers of four bytes, two in a turn (`Converting`).
 use Rattle.std.proofs.Common.{◌*◌, ◌-◌}
 use Rattle.editions.proofs.Converting.{Converting}
 use Rattle.editions.proofs.numbers.narrow_edges.Given as goal

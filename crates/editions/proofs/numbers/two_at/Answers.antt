@@ -1,3 +1,4 @@
+-- `two_at` meets its contract: two bytes are two numbers of one byte.
 use Rattle.std.proofs.Common.{◌+◌, ◌∙◌, arith}
 use Rattle.parcel.proofs.Numbers.{number_halves, number_byte}
 use Rattle.editions.proofs.numbers.two_at.Goals as goal

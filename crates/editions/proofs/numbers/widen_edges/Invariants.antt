@@ -1,3 +1,4 @@
+-- `widen_edges` meets its contract: the loop over numbers of two bytes, two in a turn (`Converting`).
 use Rattle.std.proofs.Common.{◌*◌, ◌-◌}
 use Rattle.editions.proofs.Converting.{Converting}
 use Rattle.editions.proofs.numbers.widen_edges.Given as goal

@@ -1,3 +1,4 @@
+-- `parcel::bytes::edges_into` meets its contract: the reading of numbers of two bytes (`Runs`).
 use Rattle.std.proofs.Common.{◌-◌}
 use Rattle.parcel.proofs.Runs.{Reading}
 use Rattle.parcel.proofs.bytes.edges_into.Given as goal

@@ -1,3 +1,4 @@
+-- `parcel::bytes::eight_at` meets its contract: two numbers of four bytes.
 use Rattle.parcel.proofs.Numbers.{number_halves}
 use Rattle.parcel.proofs.bytes.eight_at.Goals as goal
 

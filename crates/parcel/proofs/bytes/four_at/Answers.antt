@@ -1,3 +1,4 @@
+-- `parcel::bytes::four_at` meets its contract: two numbers of two bytes.
 use Rattle.parcel.proofs.Numbers.{number_halves}
 use Rattle.parcel.proofs.bytes.four_at.Goals as goal
 

@@ -1,3 +1,4 @@
+-- `parcel::bytes::put_edges` meets its contract: the writing of numbers of two bytes (`Runs`).
 use Rattle.std.proofs.Common.{◌-◌, length}
 use Rattle.parcel.proofs.Runs.{Writing}
 use Rattle.parcel.proofs.bytes.put_edges.Given as goal

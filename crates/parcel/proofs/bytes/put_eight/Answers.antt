@@ -1,3 +1,4 @@
+-- `parcel::bytes::put_eight` meets its contract: its low half, then its high half.
 use Rattle.parcel.proofs.Numbers.{put_halves}
 use Rattle.parcel.proofs.bytes.put_eight.Goals as goal
 

@@ -1,3 +1,4 @@
+-- `parcel::bytes::put_four` meets its contract: its low half, then its high half.
 use Rattle.parcel.proofs.Numbers.{put_halves}
 use Rattle.parcel.proofs.bytes.put_four.Goals as goal
 

@@ -1,3 +1,4 @@
+-- `parcel::bytes::put_two` meets its contract: its two bytes, one after the other.
 use Rattle.std.proofs.Common.{ℕ, ◌/◌, ◌%◌, ◌<◌, ◌≡◌, slice_set, add-one, arith, rules, sym}
 use Rattle.parcel.specs.Bytes.{bytes_of}
 use Rattle.parcel.proofs.bytes.put_two.Goals as goal

@@ -1,3 +1,4 @@
+-- `parcel::bytes::put_wide_edges` meets its contract: the writing of numbers of four bytes (`Runs`).
 use Rattle.std.proofs.Common.{◌-◌, length}
 use Rattle.parcel.proofs.Runs.{Writing}
 use Rattle.parcel.proofs.bytes.put_wide_edges.Given as goal

@@ -1,3 +1,4 @@
+-- `parcel::bytes::put_words` meets its contract: the writing of numbers of eight bytes (`Runs`).
 use Rattle.std.proofs.Common.{◌-◌, length}
 use Rattle.parcel.proofs.Runs.{Writing}
 use Rattle.parcel.proofs.bytes.put_words.Given as goal

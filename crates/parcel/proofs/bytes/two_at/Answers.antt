@@ -1,3 +1,4 @@
+-- `parcel::bytes::two_at` meets its contract: two bytes are two numbers of one byte.
 use Rattle.std.proofs.Common.{◌+◌, ◌∙◌}
 use Rattle.parcel.proofs.Numbers.{number_halves, number_byte}
 use Rattle.parcel.proofs.bytes.two_at.Goals as goal

@@ -1,3 +1,4 @@
+-- `parcel::bytes::wide_edges_into` meets its contract: the reading of numbers of four bytes (`Runs`).
 use Rattle.std.proofs.Common.{◌-◌}
 use Rattle.parcel.proofs.Runs.{Reading}
 use Rattle.parcel.proofs.bytes.wide_edges_into.Given as goal

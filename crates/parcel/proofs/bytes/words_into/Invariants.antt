@@ -1,3 +1,4 @@
+-- `parcel::bytes::words_into` meets its contract: the reading of numbers of eight bytes (`Runs`).
 use Rattle.std.proofs.Common.{◌-◌}
 use Rattle.parcel.proofs.Runs.{Reading}
 use Rattle.parcel.proofs.bytes.words_into.Given as goal

@@ -1,3 +1,5 @@
+-- `parcel::reader::counts` meets its contract: `Standing` says where each reader stands, and that what the three counts come to at the end is
+-- what the parcel holds.
 use Rattle.std.proofs.Common.{◌∙◌}
 use Rattle.parcel.proofs.Standing.{begins, count_there, passes, bytes_after, settles}
 use Rattle.parcel.proofs.reader.counts.Goals as goal

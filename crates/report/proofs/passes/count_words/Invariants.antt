@@ -10,6 +10,5 @@ use Rattle.report.proofs.passes.count_words.Given as goal
 abbrev pub invariant-loop-a : goal.invariant-loop-a
 invariant-loop-a l = (l.a ≤ l.n) × Counted l.memory l.n l.a l.kinds l.labels l.jumps
 
--- proposed from the loop's first test
 abbrev pub decreases-loop-a : goal.decreases-loop-a
 decreases-loop-a l = l.n - l.a

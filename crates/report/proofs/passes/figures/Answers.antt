@@ -1,3 +1,4 @@
+-- `passes::figures` meets its contract: what the passes answer, put together.
 use Rattle.std.proofs.Common.{rules, ◌≡◌, not, max, ◌+◌, ◌<◌, ◌≤◌, eqb, length, get_or, ℕ, ◌-◌, ◌*◌, ◌/◌, ◌%◌, Bool, true, false, nat_lt, List, [], ◌∷◌, ◌++◌, slice_set, bit_and, bit_or, Fits, w8, w32, w64, Bor, MutBor}
 use Rattle.lists.specs.Search.{bit}
 use Rattle.lists.specs.Tables.{Table}

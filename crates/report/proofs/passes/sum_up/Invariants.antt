@@ -12,6 +12,5 @@ use Rattle.report.proofs.passes.sum_up.Given as goal
 abbrev pub invariant-loop-s : goal.invariant-loop-s
 invariant-loop-s l = (l.s ≤ l.n) × (l.largest ≡ highest (λ k. get_or l.labels k 0) l.s) × (l.sets ≡ count (λ k. not (eqb (get_or l.jumps k 0) 0)) l.s)
 
--- proposed from the loop's first test
 abbrev pub decreases-loop-s : goal.decreases-loop-s
 decreases-loop-s l = l.n - l.s

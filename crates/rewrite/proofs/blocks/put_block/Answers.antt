@@ -1,3 +1,4 @@
+-- `blocks::put_block` meets its contract: the label, and behind it what stands for the word (`Bodies`).
 use native.Mathlib.Omega.{arith}
 use Rattle.rewrite.proofs.Bodies.{room, block_put}
 use Rattle.rewrite.proofs.blocks.put_block.Goals as goal

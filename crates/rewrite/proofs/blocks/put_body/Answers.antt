@@ -1,3 +1,4 @@
+-- `blocks::put_body` meets its contract: by what the word is, its guard, the word moved, or the word (`Bodies`).
 use Rattle.std.proofs.Common.{length, get_or, ℕ}
 use Rattle.std.proofs.lemmas.List.Edits.{sets}
 use Rattle.isa.specs.declared.Instr.{Instr}

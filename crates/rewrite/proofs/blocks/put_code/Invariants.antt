@@ -7,6 +7,5 @@ use Rattle.rewrite.proofs.blocks.put_code.Given as goal
 abbrev pub invariant-loop-a : goal.invariant-loop-a
 invariant-loop-a l = (l.a ≤ l.n) × Putting (block_plain l.memory l.n l.edges) l.initial.code l.code l.a
 
--- proposed from the loop's first test
 abbrev pub decreases-loop-a : goal.decreases-loop-a
 decreases-loop-a l = l.n - l.a

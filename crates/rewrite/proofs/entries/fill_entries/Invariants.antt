@@ -6,6 +6,5 @@ use Rattle.rewrite.proofs.entries.fill_entries.Given as goal
 abbrev pub invariant-loop-a : goal.invariant-loop-a
 invariant-loop-a l = Entering l.memory l.n l.edges l.entries l.at l.a
 
--- proposed from the loop's first test
 abbrev pub decreases-loop-a : goal.decreases-loop-a
 decreases-loop-a l = l.n - l.a

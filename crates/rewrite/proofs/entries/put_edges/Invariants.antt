@@ -8,6 +8,5 @@ use Rattle.rewrite.proofs.entries.put_edges.Given as goal
 abbrev pub invariant-loop-k : goal.invariant-loop-k
 invariant-loop-k l = (l.k ≤ l.m) × Putting (new_edge Technique.Plain l.memory l.edges) l.initial.new_edges l.new_edges l.k
 
--- proposed from the loop's first test
 abbrev pub decreases-loop-k : goal.decreases-loop-k
 decreases-loop-k l = l.m - l.k

@@ -7,6 +7,5 @@ use Rattle.rewrite.proofs.sets.lowest_targets.Given as goal
 abbrev pub invariant-loop-k : goal.invariant-loop-k
 invariant-loop-k l = (l.k ≤ l.m) × Table l.ids l.n (id_in l.edges l.n l.k)
 
--- proposed from the loop's first test
 abbrev pub decreases-loop-k : goal.decreases-loop-k
 decreases-loop-k l = l.m - l.k

@@ -6,6 +6,5 @@ use Rattle.rewrite.proofs.sets.put_owners.Given as goal
 abbrev pub invariant-loop-k : goal.invariant-loop-k
 invariant-loop-k l = (l.k ≤ l.m) × Owning l.edges l.n l.k l.own
 
--- proposed from the loop's first test
 abbrev pub decreases-loop-k : goal.decreases-loop-k
 decreases-loop-k l = l.m - l.k
