@@ -5,19 +5,8 @@ ghost use Rattle.std.specs.Prelude.{◌≡◌};
 ghost use Rattle.addresses.specs.Addresses.{address_of, access_at};
 
 // A sum of 2^64 or more is the address of no word.
-#[derive(Clone, Copy)]
-pub enum Access {
-    At(u64),
-    PastTop,
-}
-
-// The sum is tested before it is made.
-pub fn address(base: u64, w: u32) -> Access
+pub fn address(base: u64, w: u32) -> Option<u64>
     ensures { result ≡ access_at (address_of base w) }
 {
-    let displacement = w as u64;
-    if base <= 0xffff_ffff_ffff_ffff - displacement {
-        return Access::At(base + displacement);
-    }
-    Access::PastTop
+    base.checked_add(u64::from(w))
 }

@@ -4,12 +4,12 @@ use mathlib.Core.Path.{◌≡◌, refl, sym, ap, ◌∙◌}
 use mathlib.Core.Bool.{Bool, true, false, cond, ◌&&◌, ◌||◌}
 use mathlib.Core.List.{List, []}
 use native.Mathlib.Omega.{arith}
-use native.Mathlib.Numerals.{add-one}
 use lib.Dec.{ltb, leb}
-use Rattle.lists.specs.Search.{any}
+use lib.ListN.{length}
 use Rattle.lists.proofs.Bools.{or_left, or_right}
 use Rattle.lists.proofs.Search.{lowest_none, any_none}
-use Rattle.answers.specs.declared.Verdict.{Verdict}
+use Rattle.std.specs.Prelude.{Ok}
+use Rattle.std.specs.List.{fold}
 use Rattle.isa.specs.declared.Kind.{Kind}
 use Rattle.isa.specs.declared.Instr.{Instr}
 use Rattle.isa.specs.Words.{named_by, exact, split, instr_of, fields_of, decode_of}
@@ -20,6 +20,7 @@ use Rattle.checker.specs.Verdicts.{first_broken}
 use Rattle.checker.proofs.Rules.{kept, no_rule}
 use Rattle.guarded.specs.Rules.{is_reserved, names_reserved, is_unfit, outside, word_rules}
 use Rattle.bare.specs.Inside.{is_wrong, registers_in, names_low}
+use Rattle.bare.proofs.Chains.{found_any}
 
 -- the fields that a kind names are the first so many
 named_first : (k : Kind) (x y z : ℕ)
@@ -55,14 +56,12 @@ out_by_kind n x = go (is_branch (decode_of x)) refl
     go true e = ap (λ (b : Bool). b && leb n (x % 2 ^ 32)) e ∙ sym (ap (outside n) (branch_low x e))
     go false e = ap (λ (b : Bool). b && leb n (x % 2 ^ 32)) e ∙ sym (ap (outside n) (no_branch (decode_of x) e))
 
-pub any_next : (f : ℕ → Bool) (k : ℕ) → (f k || any f k) ≡ any f (k + 1)
-unfolding any
-any_next f k = sym (rw add-one)
-
 -- where no word is found, 20 and 21 pass
-pub none_wrong : (memory : List ℕ) (n : ℕ) → any (λ a. is_wrong n (instr_at memory a)) n ≡ false → first_broken (word_rules memory n []) ≡ Verdict.Accepted
-none_wrong memory n e =
-    let none = any_none (λ a. is_wrong n (instr_at memory a)) n e in
-    kept _ _ n (lowest_none _ n n refl (λ a l. or_left (is_unfit (instr_at memory a)) (outside n (branch_target (instr_at memory a))) (none a l))) (omega arith)
-    ∙ kept _ _ n (lowest_none _ n n refl (λ a l. or_right (is_unfit (instr_at memory a)) (outside n (branch_target (instr_at memory a))) (none a l))) (omega arith)
+pub none_wrong : (code : List ℕ) → fold (λ found word. is_wrong (length code) (decode_of word) || found) false code ≡ false
+    → first_broken (word_rules code (length code) []) ≡ Ok tt
+none_wrong code e =
+    let n = length code in
+    let none = any_none (λ a. is_wrong n (instr_at code a)) n (sym (found_any (λ word. is_wrong n (decode_of word)) code) ∙ e) in
+    kept _ _ n (lowest_none _ n n refl (λ a l. or_left (is_unfit (instr_at code a)) (outside n (branch_target (instr_at code a))) (none a l))) (omega arith)
+    ∙ kept _ _ n (lowest_none _ n n refl (λ a l. or_right (is_unfit (instr_at code a)) (outside n (branch_target (instr_at code a))) (none a l))) (omega arith)
     ∙ no_rule

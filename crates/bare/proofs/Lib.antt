@@ -1,2 +1,3 @@
 pub mod Claimed
 pub mod ByKind
+pub mod Chains

@@ -14,7 +14,7 @@ use Rattle.machine.specs.declared.State.{State}
 use Rattle.machine.specs.Steps.{state_of}
 use Rattle.machine.specs.Lent.{state_in, words_of}
 use Rattle.machine.proofs.Lent.{put_back}
-use Rattle.bus.specs.declared.Written.{Written}
+use Rattle.bus.specs.Numbers.{Written}
 use Rattle.bus.specs.Bus.{writable, write_register_of, WritesRegister}
 use Rattle.bus.specs.Lent.{WritesRegisterLent}
 use Rattle.bus.specs.Inside.{PutsRegister}

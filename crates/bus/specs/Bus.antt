@@ -1,13 +1,12 @@
 -- The bus writes (document 01, "Steps"; 000, figure 2, one place a time).
-use Rattle.std.specs.Prelude.{ℕ, ◌≡◌, Bool, not, cond, ◌&&◌, List, [], ◌∷◌, length, set, ltb, leb}
+use Rattle.std.specs.Prelude.{ℕ, ◌≡◌, Bool, not, cond, ◌&&◌, List, [], ◌∷◌, length, set, ltb, leb, Ok, Err}
 use Rattle.answers.specs.declared.Refusal.{Refusal}
 use Rattle.answers.specs.Shape.{memory_shaped}
 use Rattle.machine.specs.declared.State.{State}
 use Rattle.machine.specs.Numbers.{reason, first_reason}
 use Rattle.machine.specs.Steps.{state_of}
-use Rattle.bus.specs.declared.Written.{Written}
 use Rattle.bus.specs.declared.RegisterWritten.{RegisterWritten}
-use Rattle.bus.specs.Numbers.{written_number}
+use Rattle.bus.specs.Numbers.{Written, written_number}
 
 -- "The data memory follows the code directly: D words, .. from address n."
 abbrev pub in_data : ℕ → ℕ → ℕ → Bool
@@ -17,8 +16,8 @@ in_data n len address = leb n address && ltb address len
 unfoldable pub write_data_of : ℕ → List ℕ → ℕ → Written
 write_data_of n m address =
     cond (memory_shaped (length m) n)
-    (cond (in_data n (length m) address) Written.Done (Written.Refused Refusal.NotData))
-    (Written.Refused Refusal.Shape)
+    (cond (in_data n (length m) address) (Ok tt) (Err Refusal.NotData))
+    (Err Refusal.Shape)
 
 unfoldable pub write_data_memory : ℕ → List ℕ → ℕ → ℕ → List ℕ
 write_data_memory n m address word = cond (memory_shaped (length m) n && in_data n (length m) address) (set m address word) m
@@ -38,8 +37,8 @@ writable register = leb 3 register && leb register 31
 unfoldable pub write_register_of : State → ℕ → ℕ → RegisterWritten
 write_register_of s register word =
     cond (writable register)
-    (record { state = state_of (set s.regs register word) s.pc; answer = Written.Done })
-    (record { state = s; answer = Written.Refused Refusal.NotRegister })
+    (record { state = state_of (set s.regs register word) s.pc; answer = Ok tt })
+    (record { state = s; answer = Err Refusal.NotRegister })
 
 -- the contract of `write_register`: its answer r with its number
 pub record WritesRegister (s : State) (register word : ℕ) (r : RegisterWritten) : Type 0 where

@@ -4,7 +4,7 @@
 // a copy.
 #![tactic(auto)]
 
-ghost use Rattle.std.specs.Prelude.{◌≡◌, ◌<◌, ◌≤◌, length, set};
+ghost use Rattle.std.specs.Prelude.{◌≤◌, length};
 ghost use Rattle.bus.specs.Bus.{WritesData, WritesRegister};
 ghost use Rattle.bus.specs.Lent.{WritesRegisterLent};
 ghost use Rattle.bus.specs.Inside.{PutsRegister};
@@ -12,36 +12,26 @@ ghost use Rattle.bus.specs.Inside.{PutsRegister};
 use answers::Refusal;
 use machine::State;
 
-// What a bus write answers.
-#[derive(Clone, Copy)]
-pub enum Written {
-    Done,
-    Refused(Refusal),
-}
-
-#[derive(Clone, Copy)]
+#[derive(Clone, Copy, Debug, PartialEq, Eq)]
 pub struct RegisterWritten {
     pub state: State,
-    pub answer: Written,
+    pub answer: Result<(), Refusal>,
 }
 
-// A bus write to a data word: the part of memory from n onward is handed on as the data part.
-#[tactic(auto, using(crate::proofs::Bus::put_part), unfolding(crate::specs::Bus::write_data_of, crate::specs::Bus::write_data_memory))]
-pub fn write_data(memory: &mut [u64], n: usize, address: u64, word: u64) -> Written
+// A bus write to a data word.
+#[tactic(auto, unfolding(crate::specs::Bus::write_data_of, crate::specs::Bus::write_data_memory))]
+pub fn write_data(memory: &mut [u64], n: usize, address: u64, word: u64) -> Result<(), Refusal>
     ensures { WritesData n memory.old address word result memory.new }
 {
-    let at = address as usize;
-    if answers::memory_shaped(memory.len(), n) {
-        if at < n {
-            return Written::Refused(Refusal::NotData);
-        }
-        if at < memory.len() {
-            put_word(&mut memory[n..], at - n, word);
-            return Written::Done;
-        }
-        return Written::Refused(Refusal::NotData);
+    if !answers::memory_shaped(memory.len(), n) {
+        return Err(Refusal::Shape);
     }
-    Written::Refused(Refusal::Shape)
+    let at = address as usize;
+    if !(n..memory.len()).contains(&at) {
+        return Err(Refusal::NotData);
+    }
+    memory[at] = word;
+    Ok(())
 }
 
 // A bus write to a register.
@@ -52,43 +42,29 @@ pub fn write_register(state: State, register: u64, word: u64) -> RegisterWritten
     let mut regs = state.regs;
     let answer = put_register(&mut regs, register, word);
     RegisterWritten {
-        state: State {
-            regs: regs,
-            pc: state.pc,
-        },
-        answer: answer,
+        state: State { regs, pc: state.pc },
+        answer,
     }
 }
 
 // The same bus write on a lent state.
-pub fn write_register_lent(state: &mut [u64], register: u64, word: u64) -> Written
+pub fn write_register_lent(state: &mut [u64], register: u64, word: u64) -> Result<(), Refusal>
     ensures { WritesRegisterLent state.old register word result state.new }
 {
     if state.len() < 33 {
-        return Written::Refused(Refusal::PlaceTooShort);
+        return Err(Refusal::PlaceTooShort);
     }
     put_register(state, register, word)
 }
 
 // The word into r3 to r31, where the register is one of them.
-fn put_register(regs: &mut [u64], register: u64, word: u64) -> Written
+fn put_register(regs: &mut [u64], register: u64, word: u64) -> Result<(), Refusal>
     requires { 32 ≤ length regs.old }
     ensures { PutsRegister regs.old register word result regs.new }
 {
-    let i = register as usize;
-    if i < 3 {
-        return Written::Refused(Refusal::NotRegister);
+    if !(3..=31).contains(&register) {
+        return Err(Refusal::NotRegister);
     }
-    if i <= 31 {
-        regs[i] = word;
-        return Written::Done;
-    }
-    Written::Refused(Refusal::NotRegister)
-}
-
-fn put_word(part: &mut [u64], at: usize, word: u64)
-    requires { at < length part.old }
-    ensures { part.new ≡ set part.old at word }
-{
-    part[at] = word;
+    regs[register as usize] = word;
+    Ok(())
 }

@@ -1,20 +1,10 @@
--- The call on a program, from what the checker answers.
-use mathlib.Core.Path.{◌≡◌, ap, ◌∙◌}
-use mathlib.Core.Bool.{false}
-use mathlib.Core.List.{List}
+-- Numbers of answers, from what `number_of` says.
 use Prim.Native.Nat.{ℕ}
-use Rattle.answers.specs.declared.Verdict.{Verdict}
-use Rattle.isa.specs.declared.Technique.{Technique}
-use Rattle.lists.specs.Places.{shorter}
-use Rattle.checker.specs.Verdicts.{verdict_of}
-use Rattle.capi.specs.States.{technique_of}
-use Rattle.capi.specs.Checks.{verdict_number, verdict_place, place_after, VerdictPut, CheckCall}
+use mathlib.Core.Path.{◌≡◌}
+use Rattle.std.specs.Prelude.{Ok, Err, MatchResult}
+use Rattle.answers.specs.Numbers.{refusal_number}
+use Rattle.bus.specs.Numbers.{Written, written_number}
 
-pub check_done : {technique n r : ℕ} {m g p p' : List ℕ} {v : Verdict} {t : Technique} → shorter p 2 ≡ false → v ≡ verdict_of t m n g
-    → t ≡ technique_of technique → VerdictPut v p r p' → CheckCall technique m n g p r p'
-check_done {technique} {n} {m = m} {g = g} {p = p} {v = v} l so same put =
-    let told : v ≡ verdict_of (technique_of technique) m n g = so ∙ ap (λ (x : Technique). verdict_of x m n g) same in
-    record {
-      answer = rw l (put.answer ∙ ap verdict_number told);
-      place_after = put.place_after ∙ ap (λ (x : Verdict). place_after (verdict_place x) p) told;
-    }
+pub written_numbered : (written : Written) (r : ℕ) → MatchResult written (λ _. r ≡ 0) (λ refusal. r ≡ refusal_number refusal) → r ≡ written_number written
+written_numbered (Ok _) r e = e
+written_numbered (Err refusal) r e = e

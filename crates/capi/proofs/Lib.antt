@@ -1,5 +1,5 @@
-pub mod Words
 pub mod States
 pub mod Checks
+pub mod Puts
 pub mod Parcels
 pub mod Unchanged

@@ -1,50 +1,80 @@
--- The calls on parcels, from what the reader and the writer answer.
+-- The reader and the writer, whose answer to a place without a word or a byte is that to any place that is too short.
+use Prim.Native.Nat.{ℕ, ◌+◌, ◌<◌}
 use mathlib.Core.Path.{◌≡◌, refl, sym, ap, subst, ◌∙◌}
 use mathlib.Core.Bool.{Bool, true, false, cond}
-use mathlib.Core.List.{List}
-use Prim.Native.Nat.{ℕ}
+use mathlib.Core.List.{List, [], ◌++◌, append-nil}
 use native.Mathlib.Omega.{arith}
-use lib.ListN.{length, take, drop}
 use lib.Dec.{ltb}
+use lib.ListN.{length, take, drop}
+use lib.Seq.{take-length, drop-length}
 use borrow.Author.Tests.{lt-ltb}
+use Rattle.std.specs.Prelude.{Ok, Err}
+use Rattle.lists.specs.Places.{shorter}
 use Rattle.answers.specs.declared.Refusal.{Refusal}
 use Rattle.answers.specs.declared.Place.{Place}
+use Rattle.answers.specs.Faults.{fault}
 use Rattle.answers.specs.Shape.{call_shaped}
 use Rattle.graph.specs.Claim.{edge_count}
 use Rattle.rising.specs.Rising.{first_not_rising}
-use Rattle.parcel.specs.declared.Read.{Read}
-use Rattle.parcel.specs.declared.Written.{Written}
-use Rattle.parcel.specs.Parcel.{read_of, counts_of, memory_in, edges_in, after_read, after_write, written_of, ReadSo, WrittenSo}
+use Rattle.parcel.specs.Parcel.{Read, Content, holds, refused, read_of, counts_of, room_for, memory_in, edges_in, after_read, ReadSo, parcel_of}
+use Rattle.parcel.proofs.ReaderAnswers.{whole}
 use Rattle.parcel.proofs.Sections.{length_parcel}
-use Rattle.lists.specs.Places.{shorter}
-use Rattle.capi.specs.Checks.{place_after}
-use Rattle.capi.specs.Parcels.{read_number, no_place, read_call, counts_after, ReadPut, ReadCall, written_parcel_number, written_place, bytes_in, write_call, write_placed_short, count_after, WriteLeaves, WriteCall, WritePlacedCall}
-use Rattle.capi.specs.Inside.{WriteCounted}
+use Rattle.capi.specs.Parcels.{read_number, no_place, read_call, counts_after, ReadPut, ReadCall, bytes_in, write_call}
+use Rattle.capi.proofs.Puts.{Careful}
 
-pub same_either : (b : Bool) (counts : List ℕ) → counts ≡ cond b counts counts
-same_either true counts = refl
-same_either false counts = refl
+-- no parcel is without bytes
+pub some_bytes : (w : ℕ) (code edges words : List ℕ) → shorter [] (length (parcel_of w code edges words)) ≡ true
+some_bytes w code edges words = lt-ltb 0 (length (parcel_of w code edges words)) (omega (arith, length_parcel w code edges words))
 
-kept : (a : Read) (new old : List ℕ) → old ≡ after_read (no_place a) new old
-kept (Read.Counts code edges words) new old = refl
-kept (Read.Refused why place) new old = refl
+pub careful_writer : (w : ℕ) (m : List ℕ) (n : ℕ) (g : List ℕ) → Careful (write_call w m n g) (bytes_in w m n g)
+careful_writer w m n g = go (call_shaped (length m) n (length g)) refl (ltb (first_not_rising g) (edge_count g)) refl
+  where
+    nowhere : write_call w m n g (shorter [] (length (bytes_in w m n g))) ≡ write_call w m n g true
+    nowhere = ap (write_call w m n g) (some_bytes w (take n m) g (drop n m))
+
+    go : (shaped : Bool) → call_shaped (length m) n (length g) ≡ shaped → (falls : Bool) → ltb (first_not_rising g) (edge_count g) ≡ falls → Careful (write_call w m n g) (bytes_in w m n g)
+    go true e true f = record { why = fault Refusal.EdgeNotRising (Place.Edge (first_not_rising g)); refuses = rw (e, f); nowhere = nowhere }
+    go true e false f = record { why = fault Refusal.PlaceTooShort Place.Nowhere; refuses = rw (e, f); nowhere = nowhere }
+    go false e falls f = record { why = fault Refusal.Shape Place.Nowhere; refuses = rw e; nowhere = nowhere }
+
+-- ---- the reader
+
+-- no parcel is without code
+no_memory : (w : ℕ) (s : List ℕ) (g : ℕ) → room_for 0 g (read_of w s) ≡ no_place (counts_of (read_of w s))
+no_memory w s g = go (read_of w s) refl
+  where
+    go : (x : Content) → read_of w s ≡ x → room_for 0 g x ≡ no_place (counts_of x)
+    go (holds code edges words) e =
+        let some : 0 < length code + length words = omega (arith, (whole w s (ap counts_of e)).some_code) in
+        rw (lt-ltb 0 (length code + length words) some)
+    go (refused why) e = refl
+
+-- nothing is put anywhere then
+kept : (a : Read) (new old : List ℕ) → after_read (no_place a) new old ≡ old
+kept (Ok found) new old = refl
+kept (Err f) new old = refl
 
 kept_counts : (a : Read) (counts : List ℕ) → counts ≡ counts_after (no_place a) counts
-kept_counts (Read.Counts code edges words) counts = refl
-kept_counts (Read.Refused why place) counts = refl
+kept_counts (Ok found) counts = refl
+kept_counts (Err f) counts = refl
 
 module _ (w : ℕ) (s m g k : List ℕ) where
-  pub read_short : {r : ℕ} → shorter k 3 ≡ true → r ≡ read_number (no_place (counts_of (read_of w s))) → ReadCall w s m g k r m g k
-  read_short l e =
+  read_short : {a : Read} {r : ℕ} {part g' k' : List ℕ} → shorter k 3 ≡ true → ReadSo w s [] g a part g' → ReadPut a k r k'
+      → ReadCall w s m g k r (part ++ m) g' k'
+  read_short {a} l so put =
+      let c = counts_of (read_of w s) in
+      let same : a ≡ no_place c = so.answers ∙ no_memory w s (length g) in
+      let none = so.memory ∙ ap (λ (x : Read). after_read x (memory_in (read_of w s)) []) same ∙ kept c (memory_in (read_of w s)) [] in
+      let left = so.edges ∙ ap (λ (x : Read). after_read x (edges_in (read_of w s)) g) same in
       record {
-        answer = rw l e;
-        memory_after = rw l (kept (counts_of (read_of w s)) (memory_in (read_of w s)) m);
-        edges_after = rw l (kept (counts_of (read_of w s)) (edges_in (read_of w s)) g);
-        counts_after = rw l (kept_counts (counts_of (read_of w s)) k);
+        answer = rw l (put.answer ∙ ap read_number same);
+        memory_after = rw (l, none) (sym (kept c (memory_in (read_of w s)) m));
+        edges_after = rw l left;
+        counts_after = (rw l at put.counts_after) ∙ rw l (kept_counts c k);
       }
 
-  pub read_done : {a : Read} {r : ℕ} {m' g' k' : List ℕ} → shorter k 3 ≡ false → ReadSo w s m g a m' g' → ReadPut a k r k' → ReadCall w s m g k r m' g' k'
-  read_done {a} l so put =
+  read_whole : {a : Read} {r : ℕ} {m' g' k' : List ℕ} → shorter k 3 ≡ false → ReadSo w s m g a m' g' → ReadPut a k r k' → ReadCall w s m g k r m' g' k'
+  read_whole {a} l so put =
       let same : a ≡ read_call w s m g k = rw l so.answers in
       record {
         answer = put.answer ∙ ap read_number same;
@@ -53,62 +83,15 @@ module _ (w : ℕ) (s m g k : List ℕ) where
         counts_after = rw l at put.counts_after ∙ ap (λ (x : Read). counts_after x k) same;
       }
 
--- ---- the writer
-
--- a place that is too short for any parcel
-pub nowhere : (m : List ℕ) (n : ℕ) (g s : List ℕ) {a : Written} {s' : List ℕ} → length s ≡ 1 → WrittenSo 2 m n g s a s' → a ≡ write_call 2 m n g true
-nowhere m n g s l so =
-    so.answers
-    ∙ ap (λ (b : Bool). written_of (call_shaped (length m) n (length g)) g b (bytes_in 2 m n g))
-    (lt-ltb (length s) (length (bytes_in 2 m n g)) (omega (arith, l, length_parcel 2 (take n m) g (drop n m))))
-
--- nothing is put anywhere then
-unchanged : (shaped falls : Bool) (at : Place) (size : ℕ) (bytes s k : List ℕ)
-    → let a = cond shaped (cond falls (Written.Refused Refusal.EdgeNotRising at) (cond true (Written.Refused Refusal.PlaceTooShort Place.Nowhere) (Written.Bytes size))) (Written.Refused Refusal.Shape Place.Nowhere) in
-    (s ≡ after_write a bytes s) × (k ≡ count_after a k)
-unchanged true true at size bytes s k = (refl, refl)
-unchanged true false at size bytes s k = (refl, refl)
-unchanged false falls at size bytes s k = (refl, refl)
-
-short_leaves : (m : List ℕ) (n : ℕ) (g s k : List ℕ) → WriteLeaves (write_call 2 m n g true) m n g s k s k
-short_leaves m n g s k =
-    let u = unchanged (call_shaped (length m) n (length g)) (ltb (first_not_rising g) (edge_count g)) (Place.Edge (first_not_rising g)) (length (bytes_in 2 m n g)) (bytes_in 2 m n g) s k in
-    record { parcel_after = u.0; count_after = u.1 }
-
-module _ (m : List ℕ) (n : ℕ) (g s k : List ℕ) where
-  leaves_as : {a b : Written} {s' k' : List ℕ} → a ≡ b → WriteLeaves a m n g s k s' k' → WriteLeaves b m n g s k s' k'
-  leaves_as {s' = s'} {k' = k'} e l = subst (λ (x : Written). WriteLeaves x m n g s k s' k') e l
-
-  -- with one of the places too short, and with none
-  pub count_short : {a : Written} → shorter k 1 ≡ true → a ≡ write_call 2 m n g true → WriteCounted m n g s k a s k
-  count_short l e = record { answer = rw l e; leaves = leaves_as (sym e) (short_leaves m n g s k) }
-
-  pub counted : {a b : Written} {s' k' : List ℕ} → shorter k 1 ≡ false → WrittenSo 2 m n g s a s' → a ≡ b → k' ≡ count_after b k
-      → WriteCounted m n g s k b s' k'
-  counted l so e f =
-      record {
-        answer = rw l (sym e ∙ so.answers);
-        leaves = record { parcel_after = so.bytes ∙ ap (λ (x : Written). after_write x (bytes_in 2 m n g) s) e; count_after = f };
-      }
-
-  -- the call without a place
-  pub write_done : {a : Written} {r : ℕ} {s' k' : List ℕ} → WriteCounted m n g s k a s' k' → r ≡ written_parcel_number a
-      → WriteCall m n g s k r s' k'
-  write_done c e = record { answer = e ∙ ap written_parcel_number c.answer; leaves = leaves_as c.answer c.leaves }
-
-  -- and with it
-  module _ (p : List ℕ) where
-    pub placed_short : {a : Written} {r : ℕ} → shorter p 2 ≡ true → a ≡ write_call 2 m n g true → r ≡ written_parcel_number a
-        → WritePlacedCall m n g s k p r s k p
-    placed_short l e f =
-        record { answer = rw l (f ∙ ap written_parcel_number e); leaves = rw l (short_leaves m n g s k); place_after = rw l }
-
-    pub placed : {a : Written} {r : ℕ} {s' k' p' : List ℕ} → shorter p 2 ≡ false → WriteCounted m n g s k a s' k'
-        → p' ≡ place_after (written_place a) p → r ≡ written_parcel_number a → WritePlacedCall m n g s k p r s' k' p'
-    placed {a} l c q e =
-        let same : a ≡ write_call 2 m n g (write_placed_short m n g s k p) = rw l c.answer in
-        record {
-          answer = e ∙ ap written_parcel_number same;
-          leaves = leaves_as same c.leaves;
-          place_after = q ∙ ap (λ (x : Written). place_after (written_place x) p) same;
-        }
+  -- the part of the memory that may be used is all of it, or none
+  pub read_done : {room : ℕ} {a : Read} {r : ℕ} {part g' k' : List ℕ} → room ≡ cond (shorter k 3) 0 (length m) → ReadSo w s (take room m) g a part g'
+      → ReadPut a k r k' → ReadCall w s m g k r (part ++ drop room m) g' k'
+  read_done {room} {a} {r} {part} {g'} {k'} e so put = go (shorter k 3) refl e
+    where
+      go : (b : Bool) → shorter k 3 ≡ b → room ≡ cond b 0 (length m) → ReadCall w s m g k r (part ++ drop room m) g' k'
+      go true l z = rw z (read_short l (rw z at so) put)
+      go false l z =
+          let whole : take room m ≡ m = ap (λ (n : ℕ). take n m) z ∙ take-length m in
+          let left : part ++ drop room m ≡ part = ap (λ (x : List ℕ). part ++ x) (ap (λ (n : ℕ). drop n m) z ∙ drop-length m) ∙ append-nil part in
+          subst (λ (x : List ℕ). ReadCall w s m g k r x g' k') (sym left)
+          (read_whole l (subst (λ (x : List ℕ). ReadSo w s x g a part g') whole so) put)

@@ -1,37 +1,16 @@
 -- The calls on states, from what the run on the lent words answers and leaves.
-use Prim.Native.Nat.{ℕ, ◌+◌, ◌*◌, ◌/◌, ◌%◌, ◌^◌, ◌<◌}
-use mathlib.Core.Path.{◌≡◌, refl, ap, subst, ◌∙◌}
-use mathlib.Core.Bool.{Bool, true, false, cond}
+use Prim.Native.Nat.{ℕ, ◌/◌, ◌%◌, ◌^◌}
+use mathlib.Core.Path.{◌≡◌, refl, ap, ◌∙◌}
+use mathlib.Core.Bool.{Bool, true, false}
 use mathlib.Core.List.{List, [], ◌∷◌}
-use native.Mathlib.Omega.{arith}
 use Rattle.lists.specs.Places.{shorter, put_over}
-use Rattle.answers.specs.declared.Refusal.{Refusal}
-use Rattle.isa.specs.declared.Technique.{Technique}
 use Rattle.machine.specs.declared.Stepped.{Stepped}
 use Rattle.machine.specs.declared.Ended.{Ended}
 use Rattle.machine.specs.Numbers.{ending_number}
 use Rattle.machine.specs.Lent.{state_in, words_of, RunsLent}
 use Rattle.machine.proofs.OneStep.{one_step}
-use Rattle.bus.specs.declared.Written.{Written}
-use Rattle.bus.specs.Numbers.{written_number}
-use Rattle.bus.specs.Lent.{WritesRegisterLent}
-use Rattle.capi.specs.Words.{too_short}
-use Rattle.capi.specs.States.{technique_of, StepCall, RunCall, WriteRegisterCall}
+use Rattle.capi.specs.States.{technique_of, StepCall, RunCall}
 use Rattle.capi.specs.Inside.{Ordered, RunNumber}
-
--- the run's answer and its count, told from one number
-pub run_numbered : {order n : ℕ} {t : Technique} {state memory : List ℕ} {e : Ended} {state' memory' : List ℕ} {x y : ℕ}
-    → t ≡ technique_of (order % 256) → RunsLent t n (order / 256 % 65536) state memory e state' memory' → x ≡ e.count
-    → y ≡ ending_number e.ending → y < 2 ^ 32 → RunNumber order n state memory (x * 2 ^ 32 + y) state' memory'
-run_numbered {order} {n} {t} {state} {memory} {e} {state'} {memory'} {x} {y} same k count number small =
-    let low : (x * 2 ^ 32 + y) % 2 ^ 32 ≡ y = omega arith in
-    let high : (x * 2 ^ 32 + y) / 2 ^ 32 ≡ x = omega arith in
-    record {
-      ended = e;
-      ran = subst (λ (u : Technique). RunsLent u n (order / 256 % 65536) state memory e state' memory') same k;
-      answer_low = low ∙ number;
-      count_high = high ∙ count;
-    }
 
 module _ (technique n limit : ℕ) {order : ℕ} {state memory : List ℕ} {x : ℕ} {state' memory' : List ℕ}
     (o : Ordered technique limit order) (k : RunNumber order n state memory x state' memory') where
@@ -74,12 +53,3 @@ step_called technique n {order} {state} {memory} {x} {state'} {memory'} {r} orde
           state_after = rw s ((rw s at ran.words_after) ∙ ap (λ (y : Stepped). put_over (words_of y.state) state) o.answer);
           memory_after = rw s ((rw s at ran.memory) ∙ o.memory);
         }
-
-pub register_called : {state : List ℕ} {register word : ℕ} {w : Written} {state' : List ℕ} {r : ℕ}
-    → WritesRegisterLent state register word w state' → r ≡ written_number w → WriteRegisterCall state register word r state'
-register_called {state} {register} {word} {w} {state'} {r} k answer =
-    record { answer = go (shorter state 33) _ k.answer; state_after = k.words_after }
-  where
-    go : (b : Bool) (x : Written) → w ≡ cond b (Written.Refused Refusal.PlaceTooShort) x → r ≡ cond b too_short (written_number x)
-    go true x e = rw (answer, e)
-    go false x e = rw (answer, e)

@@ -5,17 +5,16 @@ use mathlib.Core.Bool.{Bool, true, false, cond, ◌&&◌}
 use mathlib.Core.List.{List}
 use lib.ListN.{length, set}
 use borrow.Author.Tests.{ltb-false}
+use Rattle.std.specs.Prelude.{Ok, Err}
 use Rattle.answers.specs.declared.Refusal.{Refusal}
 use Rattle.answers.specs.Shape.{memory_shaped}
 use Rattle.machine.specs.declared.State.{State}
-use Rattle.machine.specs.declared.Outcome.{Outcome}
 use Rattle.machine.specs.Numbers.{outcome_number}
 use Rattle.machine.specs.Steps.{step_of}
 use Rattle.machine.specs.Runs.{run_of, run_memory}
 use Rattle.machine.specs.Lent.{state_in, words_of}
 use Rattle.machine.proofs.Theorems.{unmade_changes_nothing}
 use Rattle.machine.proofs.Lent.{put_back}
-use Rattle.bus.specs.declared.Written.{Written}
 use Rattle.bus.specs.Numbers.{written_number}
 use Rattle.bus.specs.Bus.{in_data, writable, write_data_of, write_data_memory, write_register_of}
 use Rattle.lists.specs.Places.{shorter, put_over}
@@ -34,7 +33,7 @@ step_unchanged technique n state memory r state' memory' call stopped = go (shor
     go true e = (rw e at call.state_after, rw e at call.memory_after)
     go false e =
         let u = unmade_changes_nothing (technique_of technique) n memory (state_in state) in
-        let m : (step_of (technique_of technique) n memory (state_in state)).outcome ≡ Outcome.Made → ⊥ =
+        let m : (step_of (technique_of technique) n memory (state_in state)).outcome ≡ Ok tt → ⊥ =
         λ made. stopped ((rw e at call.answer) ∙ ap outcome_number made) in
         ((rw e at call.state_after) ∙ same_state state _ e (u.state_same m), (rw e at call.memory_after) ∙ u.memory_same m)
 
@@ -58,7 +57,7 @@ unfolding write_data_of write_data_memory
 write_data_unchanged n memory address word r memory' call refused =
     go (memory_shaped (length memory) n) (in_data n (length memory) address) call.answer call.memory_after
   where
-    go : (b c : Bool) → r ≡ written_number (cond b (cond c Written.Done (Written.Refused Refusal.NotData)) (Written.Refused Refusal.Shape))
+    go : (b c : Bool) → r ≡ written_number (cond b (cond c (Ok tt) (Err Refusal.NotData)) (Err Refusal.Shape))
         → memory' ≡ cond (b && c) (set memory address word) memory → memory' ≡ memory
     go true true e f = absurd (refused e)
     go true false e f = f

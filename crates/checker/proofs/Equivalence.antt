@@ -3,7 +3,7 @@ use Prim.Native.Nat.{ℕ, ◌+◌, ◌-◌, ◌<◌}
 use mathlib.Core.Path.{◌≡◌, refl, sym, ap, subst, ◌∙◌}
 use mathlib.Core.Logic.{◌⊎◌, inl, inr}
 use mathlib.Core.Bool.{Bool, true, false, not, ◌&&◌, ◌||◌}
-use mathlib.Core.Option.{Option, none, some}
+use Rattle.std.specs.Prelude.{Option, None, Some}
 use mathlib.Core.List.{List}
 use native.Mathlib.Omega.{arith}
 use lib.ListN.{length}
@@ -162,7 +162,7 @@ module _ (t : Technique) (memory : List ℕ) (n : ℕ) (edges : List ℕ) (ok : 
   out_of_stores Technique.MemoryGuards q w r =
       λ a h i. true_false (inner_inside memory (store_guard n (length memory)) w a i) (r.outside_stores q a h)
 
-  right_here : (a w : ℕ) → a < n → branch_target (instr_at memory a) ≡ some w → TargetRight t memory n edges w
+  right_here : (a w : ℕ) → a < n → branch_target (instr_at memory a) ≡ Some w → TargetRight t memory n edges w
   right_here a w h e = target_right memory n edges w t (rw e at (ok.branches a h))
 
   faultless_conditions : Conditions t memory n edges
@@ -245,7 +245,7 @@ module _ (t : Technique) (memory : List ℕ) (n : ℕ) (edges : List ℕ) (c : C
       (c.instrumented.jumps_guarded a r.0 (id_of edges n a) h r.1 (jump_id a r.0 h r.1)))
       (not-true _ (and_right (is_jump (instr_at memory a)) _ e))
 
-  right : (a w : ℕ) → a < n → branch_target (instr_at memory a) ≡ some w → TargetRight t memory n edges w
+  right : (a w : ℕ) → a < n → branch_target (instr_at memory a) ≡ Some w → TargetRight t memory n edges w
   right a w h e =
       let out = c.instrumented.targets_outside_guards a w h e in
       record {
@@ -262,8 +262,8 @@ module _ (t : Technique) (memory : List ℕ) (n : ℕ) (edges : List ℕ) (c : C
   no_branch a h = go (branch_target (instr_at memory a)) refl
     where
       go : (o : Option ℕ) → branch_target (instr_at memory a) ≡ o → target_wrong_if_any t memory n edges o ≡ false
-      go none e = refl
-      go (some w) e = right_target memory n edges w t (right a w h e)
+      go None e = refl
+      go (Some w) e = right_target memory n edges w t (right a w h e)
 
   conditions_faultless : Faultless t memory n edges
   conditions_faultless =

@@ -10,7 +10,8 @@ use borrow.Author.Tests.{ltb-false, le-ltb, not-false}
 use Rattle.lists.specs.Search.{lowest}
 use Rattle.lists.proofs.Bools.{clash}
 use Rattle.lists.proofs.Search.{Clean, lowest_is, lowest_none}
-use Rattle.answers.specs.declared.Verdict.{Verdict}
+use Rattle.std.specs.Prelude.{Ok, Err}
+use Rattle.answers.specs.Faults.{fault}
 use Rattle.answers.specs.Shape.{call_shaped}
 use Rattle.isa.specs.declared.Technique.{Technique}
 use Rattle.isa.specs.Instructions.{instr_at, is_illegal}
@@ -24,21 +25,21 @@ abbrev pub Passed : List Rule → Type 0
 Passed [] = Unit {0}
 Passed (rule ∷ rules) = Clean rule.faulty rule.places × Passed rules
 
-passed : (rules : List Rule) → first_broken rules ≡ Verdict.Accepted → Passed rules
+passed : (rules : List Rule) → first_broken rules ≡ Ok tt → Passed rules
 unfolding first_broken
 passed [] e = tt
 passed (rule ∷ rules) e = go (ltb (lowest rule.faulty rule.places) rule.places) refl e (λ q. passed rules q)
   where
     go : (b : Bool) → ltb (lowest rule.faulty rule.places) rule.places ≡ b
-        → cond b (Verdict.Refused rule.refusal (rule.called (lowest rule.faulty rule.places))) (first_broken rules)
-        ≡ Verdict.Accepted
-        → (first_broken rules ≡ Verdict.Accepted → Passed rules) → Passed (rule ∷ rules)
+        → cond b (Err (fault rule.refusal (rule.called (lowest rule.faulty rule.places)))) (first_broken rules)
+        ≡ Ok tt
+        → (first_broken rules ≡ Ok tt → Passed rules) → Passed (rule ∷ rules)
     go true p q ih = clash (cc)
     go false p q ih =
         let none = ltb-false (lowest rule.faulty rule.places) rule.places p in
         ((λ k h. (lowest_is rule.faulty rule.places).clean k (omega arith)), ih q)
 
-accepts : (rules : List Rule) → Passed rules → first_broken rules ≡ Verdict.Accepted
+accepts : (rules : List Rule) → Passed rules → first_broken rules ≡ Ok tt
 unfolding first_broken
 accepts [] p = refl
 accepts (rule ∷ rules) p =
@@ -56,7 +57,7 @@ pub record ClaimFaultless (memory : List ℕ) (n : ℕ) (edges : List ℕ) : Typ
   pub sets_apart : Clean (overlaps edges n) n
 
 module _ (memory : List ℕ) (n : ℕ) (edges : List ℕ) (rest : List Rule) where
-  pub claim_passed : first_broken (claim_rules memory n edges rest) ≡ Verdict.Accepted → ClaimFaultless memory n edges × Passed rest
+  pub claim_passed : first_broken (claim_rules memory n edges rest) ≡ Ok tt → ClaimFaultless memory n edges × Passed rest
   claim_passed e =
       let p = passed (claim_rules memory n edges rest) e in (
         record {
@@ -70,7 +71,7 @@ module _ (memory : List ℕ) (n : ℕ) (edges : List ℕ) (rest : List Rule) whe
         p.1.1.1.1.1.1,
       )
 
-  claim_accepts : ClaimFaultless memory n edges → Passed rest → first_broken (claim_rules memory n edges rest) ≡ Verdict.Accepted
+  claim_accepts : ClaimFaultless memory n edges → Passed rest → first_broken (claim_rules memory n edges rest) ≡ Ok tt
   claim_accepts f p =
       accepts (claim_rules memory n edges rest)
       ((λ k h. ap not f.shape), (f.edges_start, (f.edges_end, (f.edges_rise, (f.jumps_leave, (f.sets_apart, p))))))
@@ -88,7 +89,7 @@ module _ (t : Technique) (memory : List ℕ) (n : ℕ) (edges : List ℕ) where
   abbrev others : List Rule
   others = label_rules memory n edges (guard_rules t memory n edges)
 
-  pub accepted_faultless : verdict_of t memory n edges ≡ Verdict.Accepted → Faultless t memory n edges
+  pub accepted_faultless : verdict_of t memory n edges ≡ Ok tt → Faultless t memory n edges
   unfolding verdict_of
   accepted_faultless e =
       let p = claim_passed memory n edges others e in
@@ -101,7 +102,7 @@ module _ (t : Technique) (memory : List ℕ) (n : ℕ) (edges : List ℕ) where
         branches = p.1.1.1.1.1.0;
       }
 
-  pub faultless_accepted : Faultless t memory n edges → verdict_of t memory n edges ≡ Verdict.Accepted
+  pub faultless_accepted : Faultless t memory n edges → verdict_of t memory n edges ≡ Ok tt
   unfolding verdict_of
   faultless_accepted f =
       claim_accepts memory n edges others f.claim

@@ -17,6 +17,8 @@ use Rattle.lists.proofs.Search.{lowest_at, any_hit, any_clean, any_witness}
 use Rattle.lists.proofs.Counts.{count_ext, count_zero}
 use Rattle.lists.proofs.Tables.{table_as, table_set}
 use Rattle.graph.specs.Claim.{edge_count, jump_of, target_of, is_edge, has_edge, id_of}
+use Rattle.isa.specs.Instructions.{instr_at, is_jump}
+use Rattle.graph.specs.Rules.{lacks_edge}
 use Rattle.graph.specs.Passes.{Within, edge_in}
 use Rattle.graph.proofs.Edges.{edge_more, edge_at, edge_of}
 use Rattle.rising.specs.Rising.{Above, Rising}
@@ -167,6 +169,11 @@ module _ (edges : List ℕ) (r : Rising edges) where
           let some : k < end = omega (arith, run.from, ne) in
           ne_eqb end k ne
           ∙ sym (ap not (any_hit (λ i. eqb (jump_of edges i) a) (edge_count edges) k (omega (arith, run.upto)) (eq-eqb (jump_of edges k) a (run.mine k (omega arith) some))))
+
+  -- what the test of rule 9 says at a
+  pub lacks : (memory : List ℕ) (a k end : ℕ) (jump r : Bool) → Cut edges a k → Run edges a k end
+      → jump ≡ is_jump (instr_at memory a) → r ≡ (jump && eqb end k) → r ≡ lacks_edge memory edges a
+  lacks memory a k end jump r cut run ej er = er ∙ rw (ej, run_none a k end cut run)
 
   -- a jump below b with an edge is below a, where no edge from k on starts below b
   pub cut_between : (n a b k : ℕ) → Cut edges a k → ((i : ℕ) → k ≤ i → i < edge_count edges → b ≤ jump_of edges i)

@@ -11,10 +11,11 @@ use lib.Dec.{eqb}
 use borrow.Author.Tests.{eq-eqb, eqb-true}
 use lib.ListN.{length, get_or, set, length-set}
 use lib.Seq.{get_or-set_same, get_or-set_other}
-use Rattle.lists.specs.Search.{lowest, count}
+use Rattle.std.specs.Prelude.{Option, None, Some}
+use Rattle.lists.specs.Search.{count}
 use Rattle.lists.specs.Tables.{Table}
 use Rattle.lists.proofs.Bools.{and_left, and_right, both_true, true_false, refuted, upheld}
-use Rattle.lists.proofs.Search.{Clean, lowest_is, lowest_at, lowest_none, lowest_ext, clean_of}
+use Rattle.lists.proofs.Search.{Clean, lowest_is, lowest_ext}
 use Rattle.lists.proofs.Counts.{count_ext, count_eq}
 use Rattle.graph.specs.Claim.{edge_count, jump_of, target_of, is_edge, is_destination, id_of}
 use Rattle.graph.specs.Rules.{overlaps}
@@ -22,7 +23,8 @@ use Rattle.graph.specs.Passes.{Within}
 use Rattle.graph.proofs.Edges.{edge_at, edge_of, edge_below, id_hit}
 use Rattle.graph.proofs.Apart.{apart_one, one_apart}
 use Rattle.rising.specs.Rising.{Rising}
-use Rattle.checker.specs.Passes.{EdgesOf, Met, Put, Fits, Told, OwnedBy, Judged, SetPut, Overlapped}
+use Rattle.checker.specs.Passes.{EdgesOf, Met, Put, Fits, Told, OwnedBy, Judged, SetPut, Overlapped, found}
+use Rattle.checker.proofs.Places.{found_at, found_none, none_clean}
 use Rattle.checker.proofs.Listed.{edge_listed, listed_destination}
 use Rattle.checker.proofs.Runs.{lower_before, own_edge}
 
@@ -359,17 +361,17 @@ module _ (edges : List ℕ) (n : ℕ) (w : Within edges n) where
 
     -- the first edge with a contested target starts at the lowest jump that breaks the rule
     pub first_broken_lem : Rising edges → (k : ℕ) → k < edge_count edges → ((i : ℕ) → i < k → get_or own (target_of edges i) 0 ≢ n + 1)
-        → get_or own (target_of edges k) 0 ≡ n + 1 → jump_of edges k ≡ lowest (overlaps edges n) n
+        → get_or own (target_of edges k) 0 ≡ n + 1 → Some (jump_of edges k) ≡ found (overlaps edges n) n
     first_broken_lem r k l none e =
-        lowest_at (overlaps edges n) n (jump_of edges k) (w.jumps k l)
+        found_at (overlaps edges n) n (jump_of edges k) (w.jumps k l)
         (λ j q. uncontested_kept j λ t h z.
         let v = edge_of edges n j t h in
         none v.0 (lower_before edges r v.0 k v.1 (omega (arith, v.2, q))) (ap (λ (u : ℕ). get_or own u 0) v.3 ∙ z))
         (contested_broken (jump_of edges k) (target_of edges k) (edge_at edges n k l) e)
 
-    pub none_broken : ((i : ℕ) → i < edge_count edges → get_or own (target_of edges i) 0 ≢ n + 1) → n ≡ lowest (overlaps edges n) n
+    pub none_broken : ((i : ℕ) → i < edge_count edges → get_or own (target_of edges i) 0 ≢ n + 1) → None ≡ found (overlaps edges n) n
     none_broken none =
-        lowest_none (overlaps edges n) n n refl
+        found_none (overlaps edges n) n
         (λ j q. uncontested_kept j λ t h z.
         let v = edge_of edges n j t h in none v.0 v.1 (ap (λ (u : ℕ). get_or own u 0) v.3 ∙ z))
 
@@ -392,6 +394,6 @@ module _ (edges : List ℕ) (n : ℕ) (w : Within edges n) where
             let v = met.taken t l ne in
             absurd (true_false (listed_destination edges v.0 t (edge_listed edges v.0 t v.2)) d)
 
-    pub overlapped : (r : ℕ) → r ≡ lowest (overlaps edges n) n → Overlapped r edges n own
+    pub overlapped : (r : Option ℕ) → r ≡ found (overlaps edges n) n → Overlapped r edges n own
     overlapped r e =
-        record { is = e; owners = λ l. record { within = w; held = owned (clean_of (overlaps edges n) n r e l); free = free } }
+        record { is = e; owners = λ l. record { within = w; held = owned (none_clean (overlaps edges n) n (sym l ∙ e)); free = free } }

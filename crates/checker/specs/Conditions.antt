@@ -1,8 +1,7 @@
 -- The published conditions, in the order and the words of 000: the claimed graph is a CFG for the code (section 3), and the
 -- code and its graph satisfy I (4.1) or, with memory guards, I_s (5.1), as document 01 makes them finite. Two clauses are added by
 -- document 02: K2's `targets_in_code`, of plain code, and K3's `edges_rise`.
-use Rattle.std.specs.Prelude.{ℕ, ◌+◌, ◌-◌, ◌≤◌, ◌<◌, ◌≡◌, true, List, length}
-use Rattle.std.proofs.Math.Option.{some}
+use Rattle.std.specs.Prelude.{ℕ, ◌+◌, ◌-◌, ◌≤◌, ◌<◌, ◌≡◌, true, List, length, Some}
 use Rattle.answers.specs.Shape.{call_shaped}
 use Rattle.isa.specs.declared.Instr.{Instr}
 use Rattle.isa.specs.declared.Technique.{Technique}
@@ -74,9 +73,9 @@ module _ (t : Technique) (memory : List ℕ) (n : ℕ) (edges : List ℕ) where
         → EndsWith memory (jump_guard t n id) a
     -- 5.1, condition 5: "the target address w is in code memory". Of plain code 4.1 does not ask this: there it is the clause that
     -- K2 adds, "Plain code must from now on keep those targets in code".
-    pub targets_in_code : (a w : ℕ) → a < n → branch_target (instr_at memory a) ≡ some w → w < n
+    pub targets_in_code : (a w : ℕ) → a < n → branch_target (instr_at memory a) ≡ Some w → w < n
     -- 4.1, condition 4; 5.1, condition 5
-    pub targets_outside_guards : (a w : ℕ) → a < n → branch_target (instr_at memory a) ≡ some w
+    pub targets_outside_guards : (a w : ℕ) → a < n → branch_target (instr_at memory a) ≡ Some w
         → ((j id : ℕ) → j < n → IsId edges j id → InnerWord memory (jump_guard t n id) j w → ⊥) × OutsideStoreGuards t w
 
   -- what a call on memory and graph must be given (number 6), the published conditions, and how the graph must be listed

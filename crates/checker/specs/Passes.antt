@@ -1,18 +1,23 @@
 -- What the checker's passes over rising edges know, and leave in their arrays. Contracts of private functions cite these; nothing that
 -- is promised outside does.
-use Rattle.std.specs.Prelude.{ℕ, ◌+◌, ◌-◌, ◌<◌, ◌≤◌, ◌≡◌, ◌⊎◌, ◌≢◌, Bool, true, false, List, length, get_or}
-use Rattle.lists.specs.Search.{lowest, count}
+use Rattle.std.specs.Prelude.{ℕ, ◌+◌, ◌-◌, ◌<◌, ◌≤◌, ◌≡◌, ◌⊎◌, ◌≢◌, Bool, true, false, List, length, get_or, Option, None, find}
+use Rattle.std.specs.List.{range_with_len}
+use Rattle.lists.specs.Search.{count}
 use Rattle.graph.specs.Claim.{edge_count, jump_of, target_of, is_edge, id_of}
 use Rattle.graph.specs.Rules.{starts_at_no_jump, lacks_edge, overlaps}
 use Rattle.graph.specs.Passes.{Sized, Within, Owned}
-use Rattle.rising.specs.Rising.{Rising}
+use Rattle.rising.specs.Rising.{not_rising}
 
 -- memory and edges that rules 6 to 8 and 18 passed
 pub record Claimed (memory : List ℕ) (n : ℕ) (edges : List ℕ) : Type 0 where
   pub sized : Sized memory n
   pub within : Within edges n
   pub from_jumps : (k : ℕ) → k < edge_count edges → starts_at_no_jump memory n edges k ≡ false
-  pub rising : Rising edges
+  pub rising : (k : ℕ) → k < edge_count edges → not_rising edges k ≡ false
+
+-- the first of the numbers below n that passes the test, as a search of them finds it
+unfoldable pub found : (ℕ → Bool) → ℕ → Option ℕ
+found test n = find test (range_with_len 0 n)
 
 -- rule 9 passed
 abbrev pub Leaving : List ℕ → ℕ → List ℕ → Type 0
@@ -86,6 +91,12 @@ pub record AllPut (r : Bool) (edges : List ℕ) (n : ℕ) (own : List ℕ) : Typ
   pub calm : r ≡ true → (t : ℕ) → t < n → get_or own t 0 ≢ n + 1
 
 -- rule 10 tested, and where it passed, the owners
-pub record Overlapped (r : ℕ) (edges : List ℕ) (n : ℕ) (own : List ℕ) : Type 0 where
-  pub is : r ≡ lowest (overlaps edges n) n
-  pub owners : n ≤ r → Owned edges n own
+pub record Overlapped (r : Option ℕ) (edges : List ℕ) (n : ℕ) (own : List ℕ) : Type 0 where
+  pub is : r ≡ found (overlaps edges n) n
+  pub owners : r ≡ None → Owned edges n own
+
+-- the rules about the graph passed, and the owners
+pub record GraphKept (memory : List ℕ) (n : ℕ) (edges own : List ℕ) : Type 0 where
+  pub claimed : Claimed memory n edges
+  pub leaving : Leaving memory n edges
+  pub owned : Owned edges n own

@@ -1,10 +1,10 @@
 -- The verdict (document 01, "Numbers given, in checking order", and K3 of document 02): the first rule with a faulty place answers, at
 -- its first one.
-use Rattle.std.specs.Prelude.{ℕ, ◌-◌, Bool, not, cond, List, [], ◌∷◌, length, ltb}
+use Rattle.std.specs.Prelude.{ℕ, ◌-◌, Bool, not, cond, List, [], ◌∷◌, length, ltb, Ok, Err}
 use Rattle.lists.specs.Search.{lowest}
 use Rattle.answers.specs.declared.Refusal.{Refusal}
 use Rattle.answers.specs.declared.Place.{Place}
-use Rattle.answers.specs.declared.Verdict.{Verdict}
+use Rattle.answers.specs.Faults.{fault, Verdict}
 use Rattle.answers.specs.Shape.{call_shaped}
 use Rattle.isa.specs.declared.Technique.{Technique}
 use Rattle.isa.specs.Instructions.{instr_at, is_illegal}
@@ -32,10 +32,10 @@ rule_per_address refusal n faulty = record { refusal = refusal; places = n; faul
 
 -- "From 7 on, a number is tested over all edges or addresses before the next."
 unfoldable pub first_broken : List Rule → Verdict
-first_broken [] = Verdict.Accepted
+first_broken [] = Ok tt
 first_broken (rule ∷ rules) =
     cond (ltb (lowest rule.faulty rule.places) rule.places)
-    (Verdict.Refused rule.refusal (rule.called (lowest rule.faulty rule.places)))
+    (Err (fault rule.refusal (rule.called (lowest rule.faulty rule.places))))
     (first_broken rules)
 
 -- rules 7 to 10, and 18 among them: "checkers test it after 8"

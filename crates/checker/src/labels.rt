@@ -1,48 +1,37 @@
 // Labels: rule 12.
-ghost use Rattle.std.specs.Prelude.{◌≡◌, ◌≤◌, length};
-ghost use Rattle.std.proofs.Math.Option.{some};
-ghost use Rattle.lists.specs.Search.{lowest};
-ghost use Rattle.isa.specs.Words.{decode_of};
+ghost use Rattle.std.specs.Prelude.{◌≡◌, ◌<◌};
 ghost use Rattle.isa.specs.Instructions.{label_number};
+ghost use Rattle.isa.specs.Words.{decode_of};
 ghost use Rattle.graph.specs.Rules.{label_wrong};
 ghost use Rattle.graph.specs.Passes.{Owned, label_amiss};
+ghost use Rattle.checker.specs.Passes.{found};
 
-use isa::{Kind, is_a};
+use crate::claim::Claim;
+use isa::label_number;
 
-// Rule 12: the lowest address where the label condition fails, or n.
-#[tactic(auto, using(lists::proofs::Search::lowest_at, lists::proofs::Search::lowest_none, lists::proofs::Search::clean_none, lists::proofs::Search::clean_more, graph::proofs::Labels::label_wrong_lem))]
-pub(crate) fn first_label_wrong(memory: &[u64], n: usize, edges: &[u16], own: &[u16; 2048]) -> usize
-    requires { (n ≤ length memory.now) × Owned edges.now n own.now }
-    ensures { result ≡ lowest (label_wrong memory.now n edges.now) n }
+// Rule 12: the lowest address where the label condition fails.
+#[tactic(auto, unfolding(crate::specs::Passes::found))]
+pub(crate) fn first_label_wrong(claim: &Claim<'_>, own: &[u16; 2048]) -> Option<usize>
+    requires { Owned claim.now.edges.now claim.now.code.n own.now }
+    ensures { result ≡ found (label_wrong claim.now.code.memory.now claim.now.code.n claim.now.edges.now) claim.now.code.n }
 {
-    let mut a = 0;
-    while a < n {
-        if is_amiss(memory[a], own[a], n) {
-            return a;
-        }
-        a += 1;
-    }
-    a
+    (0..claim.code.n).find(|a| is_label_wrong(claim, own, *a))
+}
+
+#[tactic(auto, using(graph::proofs::Labels::label_wrong_lem))]
+fn is_label_wrong(claim: &Claim<'_>, own: &[u16; 2048], a: usize) -> bool
+    requires { Owned claim.now.edges.now claim.now.code.n own.now × (a < claim.now.code.n) }
+    ensures { result ≡ label_wrong claim.now.code.memory.now claim.now.code.n claim.now.edges.now a }
+{
+    is_amiss(claim.code.memory[a], usize::from(own[a]), claim.code.n)
 }
 
 // Whether the word is not what its address asks, by the ID that owns the address, or n: the label of that ID, or no label.
-#[tactic(auto, using(isa::proofs::ByKind::no_label, isa::proofs::ByKind::label_low))]
-fn is_amiss(word: u64, owner: u16, n: usize) -> bool
+fn is_amiss(word: u64, owner: usize, n: usize) -> bool
     ensures { result ≡ label_amiss (label_number (decode_of word)) owner n }
 {
-    let id = owner as usize;
-    if is_a(Kind::Label, word) {
-        return is_other((word % 0x1_0000_0000) as usize, id, n);
+    match label_number(word) {
+        Some(w) => n <= owner || w != owner,
+        None => owner < n,
     }
-    id < n
-}
-
-// A label's number is not the owner's ID, or there is no owner.
-fn is_other(w: usize, owner: usize, n: usize) -> bool
-    ensures { result ≡ label_amiss (some w) owner n }
-{
-    if owner < n {
-        return w != owner;
-    }
-    true
 }

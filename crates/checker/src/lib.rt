@@ -1,26 +1,27 @@
 // The verdict on a program: the rules of document 01 in their order, and K3's of document 02.
 #![tactic(auto)]
 
-ghost use Rattle.std.specs.Prelude.{◌≡◌, ◌≤◌};
+ghost use Rattle.std.specs.Prelude.{◌≡◌, ◌≤◌, Ok};
+ghost use Rattle.lists.specs.Tables.{Table};
 ghost use Rattle.graph.specs.Claim.{edge_count};
-ghost use Rattle.graph.specs.Passes.{Sized, Owned};
+ghost use Rattle.graph.specs.Passes.{Owned};
 ghost use Rattle.checker.specs.Verdicts.{first_broken, guard_rules, verdict_of, claim_verdict_of};
-ghost use Rattle.checker.specs.Steps.{rules_to, from_edges, from_sets, from_labels};
-ghost use Rattle.checker.specs.Passes.{Claimed, Leaving};
+ghost use Rattle.checker.specs.Steps.{from_edges, from_sets, from_labels};
+ghost use Rattle.checker.specs.Passes.{GraphKept, Leaving};
 
 mod branches;
-mod code;
+mod claim;
 mod edges;
 mod labels;
 mod patterns;
 mod sets;
 mod unguarded;
 
-use answers::{Place, Refusal, Verdict, call_shaped};
+use answers::{Fault, Place, Refusal, Verdict, call_shaped, refuse_at};
 use branches::first_wrong_branch;
-use code::illegal_at;
+use claim::{Claim, Code};
 use edges::{first_from_no_jump, first_outside_code, first_without_edge};
-use isa::Technique;
+use isa::{Technique, is_illegal};
 use labels::first_label_wrong;
 use rising::first_not_rising;
 use sets::first_overlap;
@@ -28,123 +29,90 @@ use unguarded::{first_bare_jump, first_bare_store};
 
 // Whether the n words of code at the front of memory, with these edges, keep the technique's conditions, and if not, the
 // number and the place of the first fault.
-#[tactic(auto, unfolding(crate::specs::Verdicts::verdict_of))]
+#[tactic(auto, using(lists::proofs::Bools::and_left, lists::proofs::Bools::and_right, lists::proofs::Tables::table_new, crate::proofs::Rules::broken_once, crate::proofs::Rules::kept_once, crate::proofs::Rules::sized, crate::proofs::Rules::few_edges), unfolding(crate::specs::Verdicts::verdict_of))]
 #[inline(never)]
 pub fn check(technique: Technique, memory: &[u64], n: usize, edges: &[u16]) -> Verdict
     ensures { result ≡ verdict_of technique memory.now n edges.now }
 {
-    check_to(Extent::Whole(technique), memory, n, edges)
+    if !call_shaped(memory.len(), n, edges.len()) {
+        return Err(Fault::nowhere(Refusal::Shape));
+    }
+    let mut own = [n as u16; 2048];
+    let code = Code { memory, n };
+    check_edges(&code, edges, &mut own)?;
+    check_labels(technique, &Claim { code, edges }, &own)
 }
 
 // The rules that speak of memory and graph alone, whatever the code's labels and guards: 6, 7, 8, 18, 9 and 10.
-#[tactic(auto, unfolding(crate::specs::Verdicts::claim_verdict_of))]
+#[tactic(auto, using(lists::proofs::Bools::and_left, lists::proofs::Bools::and_right, lists::proofs::Tables::table_new, crate::proofs::Rules::broken_once, crate::proofs::Rules::kept_once, crate::proofs::Rules::sized, crate::proofs::Rules::few_edges), unfolding(crate::specs::Verdicts::claim_verdict_of))]
 #[inline(never)]
 pub fn check_claim(memory: &[u64], n: usize, edges: &[u16]) -> Verdict
     ensures { result ≡ claim_verdict_of memory.now n edges.now }
 {
-    check_to(Extent::Claim, memory, n, edges)
+    if !call_shaped(memory.len(), n, edges.len()) {
+        return Err(Fault::nowhere(Refusal::Shape));
+    }
+    let mut own = [n as u16; 2048];
+    check_edges(&Code { memory, n }, edges, &mut own)
 }
 
-// How far a check goes: through the rules about the graph, or through all of a technique's.
-#[derive(Clone, Copy)]
-enum Extent {
-    Claim,
-    Whole(Technique),
-}
-
-#[tactic(auto, using(lists::proofs::Bools::and_left, lists::proofs::Bools::and_right, crate::proofs::Rules::broken_once, crate::proofs::Rules::kept_once, crate::proofs::Rules::sized, crate::proofs::Rules::few_edges))]
-fn check_to(extent: Extent, memory: &[u64], n: usize, edges: &[u16]) -> Verdict
-    ensures { result ≡ first_broken (rules_to extent memory.now n edges.now) }
+// Rules 7, 8 and 18, then 9 and 10; where they are kept, `own` has each address's owner.
+#[tactic(auto, using(crate::proofs::Rules::broken_by, crate::proofs::Rules::kept_by))]
+fn check_edges(code: &Code<'_>, edges: &[u16], own: &mut [u16; 2048]) -> Verdict
+    requires { (edge_count edges.now ≤ 2048) × Table own.old code.now.n (λ _. code.now.n) }
+    ensures is { result ≡ first_broken (from_edges code.now.memory.now code.now.n edges.now) }
+    ensures kept { result ≡ Ok tt → GraphKept code.now.memory.now code.now.n edges.now own.new }
 {
-    if call_shaped(memory.len(), n, edges.len()) {
-        return check_edges(extent, memory, n, edges);
-    }
-    Verdict::Refused(Refusal::Shape, Place::Nowhere)
-}
-
-// Rules 7, 8 and 18, and those after them.
-#[tactic(auto, using(lists::proofs::Search::clean_of, graph::proofs::Edges::within_of, rising::proofs::Rising::clean_rising, crate::proofs::Rules::broken, crate::proofs::Rules::kept))]
-fn check_edges(extent: Extent, memory: &[u64], n: usize, edges: &[u16]) -> Verdict
-    requires { Sized memory.now n × (edge_count edges.now ≤ 2048) }
-    ensures { result ≡ first_broken (from_edges extent memory.now n edges.now) }
-{
-    let m = edges.len() / 2;
-    let e = first_from_no_jump(memory, n, edges);
-    if e < m {
-        return Verdict::Refused(Refusal::EdgeFromNoJump, Place::Edge(e));
-    }
-    let f = first_outside_code(n, edges);
-    if f < m {
-        return Verdict::Refused(Refusal::TargetOutsideCode, Place::Edge(f));
-    }
+    let e = first_from_no_jump(code, edges);
+    refuse_at(Refusal::EdgeFromNoJump, e.map(Place::Edge))?;
+    let f = first_outside_code(code.n, edges);
+    refuse_at(Refusal::TargetOutsideCode, f.map(Place::Edge))?;
     let g = first_not_rising(edges);
-    if g < m {
-        return Verdict::Refused(Refusal::EdgeNotRising, Place::Edge(g));
-    }
-    check_sets(extent, memory, n, edges)
+    refuse_at(Refusal::EdgeNotRising, g.map(Place::Edge))?;
+    check_sets(&Claim { code: *code, edges }, own)
 }
 
-// Rules 9 and 10, and those after them.
-#[tactic(auto, using(lists::proofs::Search::clean_of, lists::proofs::Tables::table_new, crate::proofs::Rules::broken, crate::proofs::Rules::kept))]
-fn check_sets(extent: Extent, memory: &[u64], n: usize, edges: &[u16]) -> Verdict
-    requires { Claimed memory.now n edges.now }
-    ensures { result ≡ first_broken (from_sets extent memory.now n edges.now) }
+// Rules 9 and 10.
+#[tactic(auto, using(crate::proofs::Rules::broken_by, crate::proofs::Rules::kept_by, crate::proofs::Rules::last_by))]
+fn check_sets(claim: &Claim<'_>, own: &mut [u16; 2048]) -> Verdict
+    requires { Table own.old claim.now.code.n (λ _. claim.now.code.n) }
+    ensures is { result ≡ first_broken (from_sets claim.now.code.memory.now claim.now.code.n claim.now.edges.now) }
+    ensures kept { result ≡ Ok tt → GraphKept claim.now.code.memory.now claim.now.code.n claim.now.edges.now own.new }
 {
-    let a = first_without_edge(memory, n, edges);
-    if a < n {
-        return Verdict::Refused(Refusal::JumpWithoutEdge, Place::Address(a));
-    }
-    let nobody = n as u16;
-    let mut own = [nobody; 2048];
-    let b = first_overlap(edges, n, &mut own);
-    if b < n {
-        return Verdict::Refused(Refusal::TargetSetsOverlap, Place::Address(b));
-    }
-    match extent {
-        Extent::Claim => Verdict::Accepted,
-        Extent::Whole(technique) => check_labels(technique, memory, n, edges, &own),
-    }
+    let a = first_without_edge(claim);
+    refuse_at(Refusal::JumpWithoutEdge, a.map(Place::Address))?;
+    let b = first_overlap(claim, own);
+    refuse_at(Refusal::TargetSetsOverlap, b.map(Place::Address))
 }
 
 // Rules 11 and 12, and those after them.
-#[tactic(auto, using(crate::proofs::Rules::broken, crate::proofs::Rules::kept, crate::proofs::Rules::broken_once, crate::proofs::Rules::kept_once))]
-fn check_labels(
-    technique: Technique,
-    memory: &[u64],
-    n: usize,
-    edges: &[u16],
-    own: &[u16; 2048],
-) -> Verdict
-    requires { Claimed memory.now n edges.now × Leaving memory.now n edges.now × Owned edges.now n own.now }
-    ensures { result ≡ first_broken (from_labels technique memory.now n edges.now) }
+#[tactic(auto, using(crate::proofs::Rules::broken_once, crate::proofs::Rules::kept_once, crate::proofs::Rules::broken_by, crate::proofs::Rules::kept_by))]
+fn check_labels(technique: Technique, claim: &Claim<'_>, own: &[u16; 2048]) -> Verdict
+    requires { Leaving claim.now.code.memory.now claim.now.code.n claim.now.edges.now × Owned claim.now.edges.now claim.now.code.n own.now }
+    ensures { result ≡ first_broken (from_labels technique claim.now.code.memory.now claim.now.code.n claim.now.edges.now) }
 {
-    if !illegal_at(memory, n - 1) {
-        return Verdict::Refused(Refusal::LastWordLegal, Place::Address(n - 1));
+    let last = claim.code.n - 1;
+    if !is_illegal(claim.code.memory[last]) {
+        return Err(Fault {
+            refusal: Refusal::LastWordLegal,
+            place: Place::Address(last),
+        });
     }
-    let a = first_label_wrong(memory, n, edges, own);
-    if a < n {
-        return Verdict::Refused(Refusal::LabelCondition, Place::Address(a));
-    }
-    check_guards(technique, memory, n, edges)
+    let a = first_label_wrong(claim, own);
+    refuse_at(Refusal::LabelCondition, a.map(Place::Address))?;
+    check_guards(technique, claim)
 }
 
 // Rules 13 to 15.
-#[tactic(auto, using(lists::proofs::Search::clean_of, crate::proofs::Rules::broken, crate::proofs::Rules::kept, crate::proofs::Rules::no_rule))]
-fn check_guards(technique: Technique, memory: &[u64], n: usize, edges: &[u16]) -> Verdict
-    requires { Claimed memory.now n edges.now × Leaving memory.now n edges.now }
-    ensures { result ≡ first_broken (guard_rules technique memory.now n edges.now) }
+#[tactic(auto, using(crate::proofs::Rules::broken_by, crate::proofs::Rules::kept_by, crate::proofs::Rules::last_by))]
+fn check_guards(technique: Technique, claim: &Claim<'_>) -> Verdict
+    requires { Leaving claim.now.code.memory.now claim.now.code.n claim.now.edges.now }
+    ensures { result ≡ first_broken (guard_rules technique claim.now.code.memory.now claim.now.code.n claim.now.edges.now) }
 {
-    let a = first_bare_store(technique, memory, n);
-    if a < n {
-        return Verdict::Refused(Refusal::StoreUnguarded, Place::Address(a));
-    }
-    let b = first_bare_jump(technique, memory, n, edges);
-    if b < n {
-        return Verdict::Refused(Refusal::JumpUnguarded, Place::Address(b));
-    }
-    let d = first_wrong_branch(technique, memory, n, edges);
-    if d < n {
-        return Verdict::Refused(Refusal::BranchTarget, Place::Address(d));
-    }
-    Verdict::Accepted
+    let a = first_bare_store(technique, &claim.code);
+    refuse_at(Refusal::StoreUnguarded, a.map(Place::Address))?;
+    let b = first_bare_jump(technique, claim);
+    refuse_at(Refusal::JumpUnguarded, b.map(Place::Address))?;
+    let d = first_wrong_branch(technique, claim);
+    refuse_at(Refusal::BranchTarget, d.map(Place::Address))
 }

@@ -6,6 +6,8 @@ mod calls;
 mod codes;
 mod damage;
 mod edges;
+mod plan;
+mod program;
 mod random;
 mod second;
 mod sequences;
@@ -15,29 +17,6 @@ mod words;
 use std::io;
 
 fn main(rt: HostRuntime) -> io::Result<()> {
-    let counts = codes::compare_some(60000);
-    tally::print(&rt, b"accepted #\n", &counts, 0)?;
-    tally::print(
-        &rt,
-        b"refused 6: #
-refused 7: #
-refused 8: #
-refused 9: #
-refused 10: #
-refused 11: #
-refused 12: #
-refused 13: #
-refused 14: #
-refused 15: #
-refused 18: #
-disagreements #
-lists of calls #
-steps held # (jumps #, stores #), outside the graph #, code changed #
-stops # (# of them 4), of a wrong number #
-runs #, unlike their steps #
-bus writes #, refused #, answered wrongly #
-",
-        &counts,
-        6,
-    )
+    let tally = codes::compare_some(60000);
+    println!(rt; "{tally}")
 }

@@ -1,32 +1,37 @@
 // Numbers that look random, the same ones at every run: Marsaglia's shifts of 13, 7 and 17.
+ghost use Rattle.std.specs.Prelude.{◌<◌};
 
-// A number, and the seed of the next.
-#[derive(Clone, Copy)]
-pub(crate) struct Drawn {
-    pub(crate) x: usize,
-    pub(crate) seed: u64,
+#[derive(Drop)]
+pub(crate) struct Random {
+    seed: u64,
 }
 
-pub(crate) fn below(seed: u64, bound: usize) -> Drawn {
-    let y = seed ^ (seed << 13);
-    let z = y ^ (y >> 7);
-    Drawn {
-        x: rest((z / 0x1_0000_0000) as usize, bound),
-        seed: z ^ (z << 17),
+impl Random {
+    pub(crate) fn new(seed: u64) -> Self {
+        Self { seed }
     }
-}
 
-pub(crate) fn rest(x: usize, bound: usize) -> usize {
-    if bound == 0 { 0 } else { x % bound }
-}
+    // A number below the bound, or 0 where the bound is 0.
+    pub(crate) fn below(&mut self, bound: usize) -> usize
+        ensures { 0 < bound → result < bound }
+    {
+        let y = self.seed ^ (self.seed << 13);
+        let z = y ^ (y >> 7);
+        self.seed = z ^ (z << 17);
+        ((z >> 32) as usize).checked_rem(bound).unwrap_or(0)
+    }
 
-// Mostly a small number, at times a large one.
-pub(crate) fn word(seed: u64, small: usize) -> Drawn {
-    let eighth = below(seed, 8);
-    let drawn = below(eighth.seed, std::num::wrapping_add_usize(small, 4));
-    let less = if eighth.x == 0 { 3 } else { 0 };
-    Drawn {
-        x: std::num::wrapping_sub_usize(drawn.x, less),
-        seed: drawn.seed,
+    pub(crate) fn once_in(&mut self, times: usize) -> bool {
+        self.below(times) == 0
+    }
+
+    pub(crate) fn register(&mut self) -> u8 {
+        self.below(32) as u8
+    }
+
+    // Mostly a small number, at times a large one.
+    pub(crate) fn word(&mut self, small: usize) -> u64 {
+        let less = if self.once_in(8) { 3 } else { 0 };
+        (self.below(small.wrapping_add(4)) as u64).wrapping_sub(less)
     }
 }

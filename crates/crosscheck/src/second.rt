@@ -1,278 +1,267 @@
 // The checker a second time, naive and direct: document 01, "Claimed graph", "Conditions" and "Numbers given", with K2 and K3 of
 // document 02, each condition by its own words, sets by nested loops over the edges and guards by comparing words.
-use crate::edges::{NONE, edge_at, is_above};
-use crate::sequences::Guard;
-use crate::words::{at, kind_at};
-use crate::{sequences, words};
+use crate::edges::pairs;
+use crate::sequences::{Guard, RANGE_TEST, after_first, before_jump_guard};
+use crate::words;
+use crate::words::{Fields, Kind};
+use answers::Place;
+use isa::Technique;
 
-// A number, 0 for accepted, and the place that goes with it: none, an edge or an address.
+// What may be wrong, with the numbers given.
+#[derive(Clone, Copy)]
+pub(crate) enum Fault {
+    Shape = 6,
+    FromNoJump = 7,
+    OutsideCode = 8,
+    NoEdge = 9,
+    Overlap = 10,
+    LegalEnd = 11,
+    Label = 12,
+    Store = 13,
+    Jump = 14,
+    Branch = 15,
+    NotRising = 18,
+}
+
+impl Fault {
+    pub(crate) const ALL: [Self; 11] = [
+        Self::Shape,
+        Self::FromNoJump,
+        Self::OutsideCode,
+        Self::NoEdge,
+        Self::Overlap,
+        Self::LegalEnd,
+        Self::Label,
+        Self::Store,
+        Self::Jump,
+        Self::Branch,
+        Self::NotRising,
+    ];
+
+    // Nothing where no place is faulty, or this fault with the first faulty one.
+    fn at(self, faulty: Option<Place>) -> Result<(), Finding> {
+        match faulty {
+            Some(place) => Err(Finding { fault: self, place }),
+            None => Ok(()),
+        }
+    }
+}
+
+// A fault, and the place that goes with it.
 #[derive(Clone, Copy)]
 pub(crate) struct Finding {
-    pub(crate) number: usize,
-    pub(crate) counts: usize,
-    pub(crate) place: usize,
+    pub(crate) fault: Fault,
+    pub(crate) place: Place,
 }
 
-// "7 and 8 go with the place of the first faulty edge, from 0; 9 to 15 with the lowest faulty address." 18 goes "with the place of
-// the first edge that doesn't rise".
-pub(crate) fn check(guards: bool, memory: &[u64], n: usize, edges: &[u16]) -> Finding {
-    if misshaped(memory.len(), n, edges.len()) {
-        return Finding {
-            number: 6,
-            counts: 0,
-            place: 0,
+// What a checker is asked about: n words of code and then data, and edge numbers.
+#[derive(Clone, Copy)]
+pub(crate) struct Code<'a> {
+    pub(crate) technique: Technique,
+    pub(crate) memory: &'a [u64],
+    pub(crate) n: usize,
+    pub(crate) edges: &'a [u16],
+}
+
+impl Code<'_> {
+    // "7 and 8 go with the place of the first faulty edge, from 0; 9 to 15 with the lowest faulty address." 18 goes "with the place
+    // of the first edge that doesn't rise", and "checkers test it after 8".
+    pub(crate) fn check(self) -> Result<(), Finding> {
+        let misshaped = self.misshaped().then_some(Place::Nowhere);
+        Fault::Shape.at(misshaped)?;
+        Fault::FromNoJump.at(self.first_edge(|from, _| !self.is_jump(from)))?;
+        Fault::OutsideCode.at(self.first_edge(|_, to| to >= self.n))?;
+        Fault::NotRising.at(self.first_not_rising())?;
+        Fault::NoEdge.at(self.first_jump(|a| !self.any_edge(|from, _| from == a)))?;
+        Fault::Overlap.at(self.first_jump(|a| self.overlaps_some(a)))?;
+        Fault::LegalEnd.at(self.first(|a| self.ends_wrong(a)))?;
+        Fault::Label.at(self.first(|a| self.mislabelled(a)))?;
+        Fault::Store.at(self.first(|a| self.stores_wrong(a)))?;
+        Fault::Jump.at(self.first_jump(|a| !self.jump_guarded(a)))?;
+        Fault::Branch.at(self.first(|a| self.branches_wrong(a)))
+    }
+
+    fn misshaped(self) -> bool {
+        let len = self.memory.len();
+        let numbers = self.edges.len();
+        let code_wrong = self.n == 0 || self.n > 2048 || self.n > len;
+        code_wrong || len.wrapping_sub(self.n) > 2048 || numbers % 2 == 1 || numbers > 4096
+    }
+
+    // The lowest address of code of which the test holds.
+    fn first<F: Fn(usize) -> bool>(self, test: F) -> Option<Place>
+        requires { F.IsAlwaysCallable test }
+    {
+        (0..self.n).find(|a| test(*a)).map(Place::Address)
+    }
+
+    // The same among the jumps.
+    fn first_jump<F: Fn(usize) -> bool>(self, test: F) -> Option<Place>
+        requires { F.IsAlwaysCallable test }
+    {
+        self.first(|a| self.is_jump(a) && test(a))
+    }
+
+    // The first edge of which the test holds, from an address to another.
+    fn first_edge<F: Fn(usize, usize) -> bool>(self, test: F) -> Option<Place>
+        requires { F.IsAlwaysCallable test }
+    {
+        pairs(self.edges)
+            .iter()
+            .position(|[from, to]| test(usize::from(*from), usize::from(*to)))
+            .map(Place::Edge)
+    }
+
+    fn any_edge<F: Fn(usize, usize) -> bool>(self, test: F) -> bool
+        requires { F.IsAlwaysCallable test }
+    {
+        self.first_edge(test).is_some()
+    }
+
+    // The first edge that is not above the one before it: by where they start, then by where they end.
+    fn first_not_rising(self) -> Option<Place> {
+        let edges = pairs(self.edges);
+        edges
+            .iter()
+            .zip(edges.iter().skip(1))
+            .position(|(before, edge)| edge <= before)
+            .map(|k| Place::Edge(k.wrapping_add(1)))
+    }
+
+    fn word(self, address: usize) -> u64 {
+        words::at(self.memory, address)
+    }
+
+    pub(crate) fn kind(self, address: usize) -> Option<Kind> {
+        words::kind_at(self.memory, address)
+    }
+
+    fn is_jump(self, address: usize) -> bool {
+        address < self.n && self.kind(address) == Some(Kind::Jmp)
+    }
+
+    fn ends_wrong(self, address: usize) -> bool {
+        address.wrapping_add(1) == self.n && self.kind(address).is_some()
+    }
+
+    fn is_edge(self, jump: usize, target: usize) -> bool {
+        self.any_edge(|from, to| from == jump && to == target)
+    }
+
+    // "The ID of a target set is its lowest address."
+    fn lowest_target(self, jump: usize) -> usize {
+        (0..self.n)
+            .find(|target| self.is_edge(jump, *target))
+            .unwrap_or(self.n)
+    }
+
+    // "A jump's target set meets another's and differs from it."
+    fn overlaps_some(self, jump: usize) -> bool {
+        self.any_edge(|other, _| self.overlaps(jump, other))
+    }
+
+    fn overlaps(self, jump: usize, other: usize) -> bool {
+        self.any_edge(|from, to| from == jump && self.is_edge(other, to))
+            && (self.has_another_target(jump, other) || self.has_another_target(other, jump))
+    }
+
+    // Some target of the jump is none of the other's.
+    fn has_another_target(self, jump: usize, other: usize) -> bool {
+        self.any_edge(|from, to| from == jump && !self.is_edge(other, to))
+    }
+
+    // "A destination holds label with its set's ID and no other address holds a label." The word of label w is the number w.
+    fn mislabelled(self, address: usize) -> bool {
+        let edge = pairs(self.edges)
+            .iter()
+            .find(|[_, to]| usize::from(*to) == address);
+        match edge {
+            Some([jump, _]) => {
+                self.word(address) != self.lowest_target(usize::from(*jump)) as u64
+            }
+            None => self.kind(address) == Some(Kind::Label),
+        }
+    }
+
+    // "addi r0, rs, w" with w at most this, and after it these words, stand so that the last of them is just before an address.
+    fn guarded(self, end: usize, most: u32, guard: &[u64]) -> bool {
+        let words = end
+            .checked_sub(guard.len().wrapping_add(1))
+            .and_then(|start| self.memory.get(start..));
+        match words {
+            Some([addi, rest @ ..]) => sets_r0(*addi, most) && rest.starts_with(guard),
+            _ => false,
+        }
+    }
+
+    // "each jmp is jmp r0 after" its guard: plain, the label test; with memory guards, the range test before it.
+    fn jump_guarded(self, address: usize) -> bool {
+        let guard = Guard::of_jump(self.n, self.lowest_target(address)).words();
+        let from = before_jump_guard(self.technique);
+        self.guarded(address.wrapping_add(1), 0, &guard[from..])
+    }
+
+    // "each st is st r0(0), rs after addi r0, rd, w; movi r1, n+D-1; movi r2, n; bgt r0, r1, HALT; bgt r2, r0, HALT"
+    fn stores_wrong(self, address: usize) -> bool {
+        match self.technique {
+            Technique::Plain => false,
+            Technique::MemoryGuards => {
+                self.kind(address) == Some(Kind::St) && !self.store_guarded(address)
+            }
+        }
+    }
+
+    fn store_guarded(self, address: usize) -> bool {
+        let st = Fields::from(self.word(address));
+        let guard = Guard::of_store(self.n, self.memory.len()).words();
+        self.memory.len() > self.n
+            && st.a == 0
+            && st.w == 0
+            && self.guarded(address, u32::MAX, &guard[..RANGE_TEST])
+    }
+
+    fn branch_target(self, address: usize) -> usize {
+        Fields::from(self.word(address)).w as usize
+    }
+
+    // The target of a branch is outside code, or a word of a sequence but the first.
+    fn branches_wrong(self, address: usize) -> bool {
+        match self.kind(address) {
+            Some(Kind::Bgt | Kind::Jd) => self.target_wrong(self.branch_target(address)),
+            _ => false,
+        }
+    }
+
+    fn target_wrong(self, target: usize) -> bool {
+        target >= self.n || self.inside_sequence(target)
+    }
+
+    fn inside_sequence(self, address: usize) -> bool {
+        let code = self.memory.iter().take(self.n);
+        code.skip(address).enumerate().any(|(before, word)| {
+            words::kind_of(*word)
+                .and_then(|kind| after_first(self.technique, kind))
+                .is_some_and(|after| before < after)
+        })
+    }
+
+    // The graph: next is a successor of pc by the word there, or by a listed edge at a jmp.
+    pub(crate) fn succeeds(self, pc: usize, next: usize) -> bool {
+        let follows = next == pc.wrapping_add(1);
+        let branched = next == self.branch_target(pc);
+        let listed = match self.kind(pc) {
+            None => false,
+            Some(Kind::Jmp) => self.is_edge(pc, next),
+            Some(Kind::Jd) => branched,
+            Some(Kind::Bgt) => follows || branched,
+            Some(_) => follows,
         };
+        pc < self.n && next < self.n && listed
     }
-    let mut turn: usize = 0;
-    while turn < 10 {
-        let number = number_in_turn(turn);
-        let of_edges = turn < 3;
-        let counts = if of_edges { 1 } else { 2 };
-        let places = if of_edges { edges.len() / 2 } else { n };
-        let place = first_fault(number, guards, memory, n, edges, places);
-        if place < places {
-            return Finding {
-                number: number,
-                counts: counts,
-                place: place,
-            };
-        }
-        turn += 1;
-    }
-    Finding {
-        number: 0,
-        counts: 0,
-        place: 0,
-    }
-}
-
-// "checkers test it after 8": 7, 8, 18, and then 9 to 15.
-fn number_in_turn(turn: usize) -> usize {
-    match turn {
-        0 => 7,
-        1 => 8,
-        2 => 18,
-        _ => std::num::wrapping_add_usize(turn, 6),
-    }
-}
-
-fn misshaped(len: usize, n: usize, numbers: usize) -> bool {
-    let data = std::num::wrapping_sub_usize(len, n);
-    (n == 0) | (n > 2048) | (n > len) | (data > 2048) | (numbers % 2 == 1) | (numbers > 4096)
-}
-
-fn first_fault(
-    number: usize,
-    guards: bool,
-    memory: &[u64],
-    n: usize,
-    edges: &[u16],
-    places: usize,
-) -> usize {
-    let mut k = 0;
-    while k < places {
-        if concerns(number, guards, kind_at(memory, k)) {
-            if faulty(number, guards, memory, n, edges, k) {
-                return k;
-            }
-        }
-        k += 1;
-    }
-    k
-}
-
-// Number 7 to 15 or 18 says something of a word of this kind, or of any edge or address.
-fn concerns(number: usize, guards: bool, kind: usize) -> bool {
-    match number {
-        9 | 10 | 14 => kind == words::JMP,
-        13 => guards & (kind == words::ST),
-        15 => (kind == words::BGT) | (kind == words::JD),
-        _ => true,
-    }
-}
-
-// Number 7 to 15 or 18 applies at this edge or address. All that are tested earlier apply nowhere.
-fn faulty(number: usize, guards: bool, memory: &[u64], n: usize, edges: &[u16], k: usize) -> bool {
-    match number {
-        7 => !is_jump(memory, n, edge_at(edges, k).from),
-        8 => edge_at(edges, k).to >= n,
-        9 => find(edges, k, NONE) == NONE,
-        10 => overlaps_some(edges, k),
-        11 => ends_wrong(memory, n, k),
-        12 => mislabelled(memory, n, edges, k),
-        13 => !store_guarded(memory, n, k),
-        14 => !jump_guarded(guards, memory, n, lowest_target(edges, n, k), k),
-        18 => !rises(edges, k),
-        _ => target_wrong(guards, memory, n, branch_target(memory, k)),
-    }
-}
-
-// The edge is above the one before it, if there is one.
-fn rises(edges: &[u16], k: usize) -> bool {
-    let before = edge_at(edges, std::num::wrapping_sub_usize(k, 1));
-    (k == 0) | is_above(edge_at(edges, k), before)
-}
-
-fn is_jump(memory: &[u64], n: usize, address: usize) -> bool {
-    (address < n) & (kind_at(memory, address) == words::JMP)
-}
-
-fn ends_wrong(memory: &[u64], n: usize, address: usize) -> bool {
-    (std::num::wrapping_add_usize(address, 1) == n) & (kind_at(memory, address) != words::ILLEGAL)
-}
-
-// The first edge from one address to another, each of them any where it is NONE; NONE where there is no such edge.
-fn find(edges: &[u16], from: usize, to: usize) -> usize {
-    let count = edges.len() / 2;
-    let mut k = 0;
-    while k < count {
-        let e = edge_at(edges, k);
-        if ((from == NONE) | (from == e.from)) & ((to == NONE) | (to == e.to)) {
-            return k;
-        }
-        k += 1;
-    }
-    NONE
-}
-
-fn is_edge(edges: &[u16], jump: usize, target: usize) -> bool {
-    find(edges, jump, target) != NONE
-}
-
-// "The ID of a target set is its lowest address."
-fn lowest_target(edges: &[u16], n: usize, jump: usize) -> usize {
-    let mut target = 0;
-    while target < n {
-        if is_edge(edges, jump, target) {
-            return target;
-        }
-        target += 1;
-    }
-    n
-}
-
-// Some target of one jump is a target of the other, or is none.
-fn some_target(edges: &[u16], jump: usize, other: usize, shared: bool) -> bool {
-    let count = edges.len() / 2;
-    let mut k = 0;
-    while k < count {
-        let e = edge_at(edges, k);
-        if e.from == jump {
-            if is_edge(edges, other, e.to) == shared {
-                return true;
-            }
-        }
-        k += 1;
-    }
-    false
-}
-
-// "A jump's target set meets another's and differs from it."
-fn overlaps_some(edges: &[u16], jump: usize) -> bool {
-    let count = edges.len() / 2;
-    let mut k = 0;
-    while k < count {
-        if overlaps(edges, jump, edge_at(edges, k).from) {
-            return true;
-        }
-        k += 1;
-    }
-    false
-}
-
-fn overlaps(edges: &[u16], jump: usize, other: usize) -> bool {
-    some_target(edges, jump, other, true)
-        && (some_target(edges, jump, other, false) | some_target(edges, other, jump, false))
-}
-
-// "A destination holds label with its set's ID and no other address holds a label." The word of label w is the number w.
-fn mislabelled(memory: &[u64], n: usize, edges: &[u16], address: usize) -> bool {
-    let jump = edge_at(edges, find(edges, NONE, address)).from;
-    if jump == NONE {
-        kind_at(memory, address) == words::LABEL
-    } else {
-        at(memory, address) != lowest_target(edges, n, jump)
-    }
-}
-
-// The words of a guard from one to before another stand in memory; the address is where word 0 would be.
-fn stands(memory: &[u64], g: Guard, from: usize, to: usize, address: usize) -> bool {
-    let mut k = from;
-    while k < to {
-        if at(memory, std::num::wrapping_add_usize(address, k)) != sequences::guard_word(g, k) {
-            return false;
-        }
-        k += 1;
-    }
-    true
 }
 
 // "addi r0, rs, w" with w at most this
-fn sets_r0(word: usize, most: usize) -> bool {
-    let f = words::fields_of(word);
-    (words::kind(word) == words::ADDI) & (f.a == 0) & (f.w <= most)
-}
-
-// "each jmp is jmp r0 after" its guard: plain, the label test; with memory guards, the range test before it.
-fn jump_guarded(guards: bool, memory: &[u64], n: usize, id: usize, address: usize) -> bool {
-    let start = std::num::wrapping_sub_usize(address, 8);
-    let from = if guards { 0 } else { sequences::LABEL_TEST };
-    let addi = std::num::wrapping_sub_usize(std::num::wrapping_add_usize(start, from), 1);
-    sets_r0(at(memory, addi), 0)
-        && stands(
-            memory,
-            sequences::jump_guard(n, id),
-            from,
-            sequences::END,
-            start,
-        )
-}
-
-// "each st is st r0(0), rs after addi r0, rd, w; movi r1, n+D-1; movi r2, n; bgt r0, r1, HALT; bgt r2, r0, HALT"
-fn store_guarded(memory: &[u64], n: usize, address: usize) -> bool {
-    let st = words::fields_of(at(memory, address));
-    let addi = at(memory, std::num::wrapping_sub_usize(address, 5));
-    let start = std::num::wrapping_sub_usize(address, 4);
-    let guard = sequences::store_guard(n, memory.len());
-    (memory.len() > n)
-        & (st.a == 0)
-        & (st.w == 0)
-        & sets_r0(addi, 0xffff_ffff)
-        & stands(memory, guard, 0, sequences::LABEL_TEST, start)
-}
-
-fn branch_target(memory: &[u64], address: usize) -> usize {
-    words::fields_of(at(memory, address)).w
-}
-
-// The target is outside code, or a word of a sequence but the first.
-fn target_wrong(guards: bool, memory: &[u64], n: usize, target: usize) -> bool {
-    if target >= n {
-        return true;
-    }
-    let mut end = target;
-    while end < n {
-        if std::num::wrapping_sub_usize(end, target)
-            < sequences::words_after_first(guards, kind_at(memory, end))
-        {
-            return true;
-        }
-        end += 1;
-    }
-    false
-}
-
-// The graph: next is a successor of pc by the word there, or by a listed edge at a jmp.
-pub(crate) fn succeeds(memory: &[u64], n: usize, edges: &[u16], pc: usize, next: usize) -> bool {
-    let follows = next == std::num::wrapping_add_usize(pc, 1);
-    let branched = next == branch_target(memory, pc);
-    let kind = kind_at(memory, pc);
-    let listed = match kind {
-        words::ILLEGAL => false,
-        words::JMP => is_edge(edges, pc, next),
-        words::JD => branched,
-        words::BGT => follows | branched,
-        _ => follows,
-    };
-    (pc < n) & (next < n) & listed
+fn sets_r0(word: u64, most: u32) -> bool {
+    let f = Fields::from(word);
+    words::kind_of(word) == Some(Kind::Addi) && f.a == 0 && f.w <= most
 }

@@ -1,62 +1,91 @@
 // The guard sequences of document 01 a second time, word by word.
-use crate::words;
+ghost use Rattle.std.specs.Prelude.{◌≤◌};
+
+use crate::words::{Kind, low, word};
+use isa::Technique;
 
 // What the words of a guard name: the last address of code is HALT, r0 is held between low and high, a label is held to be ID.
 #[derive(Clone, Copy)]
 pub(crate) struct Guard {
-    pub(crate) halt: usize,
-    pub(crate) low: usize,
-    pub(crate) high: usize,
-    pub(crate) id: usize,
+    halt: u32,
+    low: u32,
+    high: u32,
+    id: u32,
 }
 
-// The words up to here are the range test, and those from here on the label test and the jump.
-pub(crate) const LABEL_TEST: usize = 4;
+impl Guard {
+    // A jump's target lies in code, below n.
+    pub(crate) fn of_jump(n: usize, id: usize) -> Self {
+        let halt = low(n.wrapping_sub(1));
+        Self {
+            halt,
+            low: 0,
+            high: halt,
+            id: low(id),
+        }
+    }
 
-pub(crate) const END: usize = 9;
+    // A store's address lies in data, from n on.
+    pub(crate) fn of_store(n: usize, len: usize) -> Self {
+        Self {
+            halt: low(n.wrapping_sub(1)),
+            low: low(n),
+            high: low(len.wrapping_sub(1)),
+            id: 0,
+        }
+    }
 
-// After "addi r0, rs, w" the words "movi r1, high; movi r2, low; bgt r0, r1, HALT; bgt r2, r0, HALT", and
-// "ld r1, r0(0); movi r2, ID; bgt r1, r2, HALT; bgt r2, r1, HALT; jmp r0": the k-th of the nine, from 0.
-pub(crate) fn guard_word(g: Guard, k: usize) -> usize {
-    match k {
-        0 => words::word(words::MOVI, 1, 0, 0, g.high),
-        1 => words::word(words::MOVI, 2, 0, 0, g.low),
-        2 => words::word(words::BGT, 0, 1, 0, g.halt),
-        3 => words::word(words::BGT, 2, 0, 0, g.halt),
-        4 => words::word(words::LD, 1, 0, 0, 0),
-        5 => words::word(words::MOVI, 2, 0, 0, g.id),
-        6 => words::word(words::BGT, 1, 2, 0, g.halt),
-        7 => words::word(words::BGT, 2, 1, 0, g.halt),
-        _ => words::word(words::JMP, 0, 0, 0, 0),
+    // After "addi r0, rs, w" the words "movi r1, high; movi r2, low; bgt r0, r1, HALT; bgt r2, r0, HALT", the range test, and
+    // "ld r1, r0(0); movi r2, ID; bgt r1, r2, HALT; bgt r2, r1, HALT; jmp r0", the label test and the jump.
+    pub(crate) fn words(self) -> [u64; 9] {
+        [
+            word(Kind::Movi, 1, 0, 0, self.high),
+            word(Kind::Movi, 2, 0, 0, self.low),
+            word(Kind::Bgt, 0, 1, 0, self.halt),
+            word(Kind::Bgt, 2, 0, 0, self.halt),
+            word(Kind::Ld, 1, 0, 0, 0),
+            word(Kind::Movi, 2, 0, 0, self.id),
+            word(Kind::Bgt, 1, 2, 0, self.halt),
+            word(Kind::Bgt, 2, 1, 0, self.halt),
+            word(Kind::Jmp, 0, 0, 0, 0),
+        ]
     }
 }
 
-// A jump's target lies in code, below n.
-pub(crate) fn jump_guard(n: usize, id: usize) -> Guard {
-    let halt = std::num::wrapping_sub_usize(n, 1);
-    Guard {
-        halt: halt,
-        low: 0,
-        high: halt,
-        id: id,
+// How many of these words are the range test.
+pub(crate) const RANGE_TEST: usize = 4;
+
+// How many of these words a jump's sequence goes without.
+pub(crate) fn before_jump_guard(technique: Technique) -> usize
+    ensures { result ≤ 4 }
+{
+    match technique {
+        Technique::Plain => RANGE_TEST,
+        Technique::MemoryGuards => 0,
     }
 }
 
-// A store's address lies in data, from n on.
-pub(crate) fn store_guard(n: usize, len: usize) -> Guard {
-    Guard {
-        halt: std::num::wrapping_sub_usize(n, 1),
-        low: n,
-        high: std::num::wrapping_sub_usize(len, 1),
-        id: 0,
+// How many words of a jump's sequence come after its first.
+pub(crate) fn after_jump_first(technique: Technique) -> usize {
+    match technique {
+        Technique::Plain => 5,
+        Technique::MemoryGuards => 9,
     }
 }
 
-// How many words of a sequence come after its first, where its last is of this kind; 0 where none ends so.
-pub(crate) fn words_after_first(guards: bool, kind: usize) -> usize {
-    match kind {
-        words::JMP => { if guards { 9 } else { 5 } }
-        words::ST => { if guards { 5 } else { 0 } }
-        _ => 0,
+// The same of a store's sequence, if a store needs one.
+pub(crate) fn after_store_first(technique: Technique) -> Option<usize> {
+    match technique {
+        Technique::Plain => None,
+        Technique::MemoryGuards => Some(5),
+    }
+}
+
+// The same of the sequence that ends with a word of this kind, if one does.
+pub(crate) fn after_first(technique: Technique, last: Kind) -> Option<usize> {
+    match last {
+        Kind::Jmp => Some(after_jump_first(technique)),
+        Kind::St => after_store_first(technique),
+        _ => None,
     }
 }

@@ -1,81 +1,102 @@
-use std::io;
+use crate::second::Fault;
+use std::fmt;
 
-// How often what came up, each thing at its own place, in the order of the output.
+// How often something came up.
+#[derive(Clone, Copy)]
+pub(crate) struct Count(u64);
+
+impl Count {
+    // One more, where it came up.
+    pub(crate) fn add(&mut self, came_up: bool) {
+        self.0 = self.0.wrapping_add(u64::from(came_up));
+    }
+}
+
+impl fmt::Display for Count {
+    fn fmt<W: fmt::Write>(&self, f: &mut fmt::Formatter<W>) -> fmt::Result {
+        write!(f, "{}", self.0)
+    }
+}
+
+// How often what came up, the refused codes at the number of their fault.
 #[derive(Clone, Copy)]
 pub(crate) struct Tally {
-    pub(crate) counts: [u64; 32],
+    pub(crate) accepted: Count,
+    refused: [Count; 19],
+    pub(crate) disagreements: Count,
+    pub(crate) lists: Count,
+    pub(crate) steps: Count,
+    pub(crate) jumps: Count,
+    pub(crate) stores: Count,
+    pub(crate) outside: Count,
+    pub(crate) code_changed: Count,
+    pub(crate) stops: Count,
+    pub(crate) fours: Count,
+    pub(crate) wrong_stops: Count,
+    pub(crate) runs: Count,
+    pub(crate) wrong_runs: Count,
+    pub(crate) writes: Count,
+    pub(crate) refused_writes: Count,
+    pub(crate) wrong_writes: Count,
 }
 
-// The numbers 0 to 15 stand at themselves, 18 after them, and then what else is counted.
-const NOT_RISING: usize = 16;
+impl Tally {
+    pub(crate) fn empty() -> Self {
+        let none = Count(0);
+        Self {
+            accepted: none,
+            refused: [none; 19],
+            disagreements: none,
+            lists: none,
+            steps: none,
+            jumps: none,
+            stores: none,
+            outside: none,
+            code_changed: none,
+            stops: none,
+            fours: none,
+            wrong_stops: none,
+            runs: none,
+            wrong_runs: none,
+            writes: none,
+            refused_writes: none,
+            wrong_writes: none,
+        }
+    }
 
-pub(crate) const DISAGREEMENTS: usize = 17;
-
-pub(crate) const LISTS: usize = 18;
-
-pub(crate) const STEPS: usize = 19;
-
-pub(crate) const JUMPS: usize = 20;
-
-pub(crate) const STORES: usize = 21;
-
-pub(crate) const OUTSIDE: usize = 22;
-
-pub(crate) const CODE_CHANGED: usize = 23;
-
-pub(crate) const STOPS: usize = 24;
-
-pub(crate) const FOURS: usize = 25;
-
-pub(crate) const WRONG_STOPS: usize = 26;
-
-pub(crate) const RUNS: usize = 27;
-
-pub(crate) const WRONG_RUNS: usize = 28;
-
-pub(crate) const WRITES: usize = 29;
-
-pub(crate) const REFUSED_WRITES: usize = 30;
-
-pub(crate) const WRONG_WRITES: usize = 31;
-
-// Where an answer's number stands.
-pub(crate) fn place_of(number: usize) -> usize {
-    if number == 18 { NOT_RISING } else { number }
+    pub(crate) fn refuse(&mut self, fault: Fault) {
+        self.refused[fault as usize].add(true);
+    }
 }
 
-// One more at a place, where it came up.
-pub(crate) fn count(tally: Tally, place: usize, came_up: bool) -> Tally {
-    let mut counted = tally;
-    if place < 32 {
-        counted.counts[place] = std::num::wrapping_add_u64(tally.counts[place], came_up as u64);
+impl fmt::Display for Tally {
+    fn fmt<W: fmt::Write>(&self, f: &mut fmt::Formatter<W>) -> fmt::Result {
+        writeln!(f, "accepted {}", self.accepted)?;
+        for fault in Fault::ALL {
+            let number = fault as usize;
+            writeln!(f, "refused {number}: {}", self.refused[number])?;
+        }
+        writeln!(f, "disagreements {}", self.disagreements)?;
+        writeln!(f, "lists of calls {}", self.lists)?;
+        write!(f, "steps held {} (jumps {}, ", self.steps, self.jumps)?;
+        write!(
+            f,
+            "stores {}), outside the graph {}, ",
+            self.stores, self.outside
+        )?;
+        writeln!(f, "code changed {}", self.code_changed)?;
+        write!(f, "stops {} ({} of them 4), ", self.stops, self.fours)?;
+        writeln!(f, "of a wrong number {}", self.wrong_stops)?;
+        writeln!(
+            f,
+            "runs {}, unlike their steps {}",
+            self.runs, self.wrong_runs
+        )?;
+        write!(
+            f,
+            "bus writes {}, refused {}, ",
+            self.writes, self.refused_writes
+        )?;
+        write!(f, "answered wrongly {}", self.wrong_writes)
     }
-    counted
-}
-
-// The text, with the next count for each '#', from a place on.
-pub(crate) fn print(
-    rt: &impl Print,
-    text: &[u8],
-    counts: &[u64; 32],
-    from: usize,
-) -> io::Result<()> {
-    let mut place = from;
-    let mut k = 0;
-    while k < text.len() {
-        place = print_one(rt, text[k], counts, place)?;
-        k += 1;
-    }
-    Ok(())
-}
-
-fn print_one(rt: &impl Print, byte: u8, counts: &[u64; 32], place: usize) -> io::Result<usize> {
-    if byte != b'#' {
-        rt.write_all(&[byte])?;
-        return Ok(place);
-    }
-    if place < 32 {
-        rt.print(counts[place])?;
-    }
-    Ok(std::num::wrapping_add_usize(place, 1))
 }

@@ -1,85 +1,103 @@
 // Instruction words a second time (document 01, "Words and memory").
-pub(crate) const LABEL: usize = 0;
 
-pub(crate) const ADD: usize = 1;
+// The opcodes.
+#[derive(Clone, Copy, PartialEq, Eq)]
+pub(crate) enum Kind {
+    Label = 0,
+    Add = 1,
+    Addi = 2,
+    Movi = 3,
+    Bgt = 4,
+    Jd = 5,
+    Jmp = 6,
+    Ld = 7,
+    St = 8,
+}
 
-pub(crate) const ADDI: usize = 2;
-
-pub(crate) const MOVI: usize = 3;
-
-pub(crate) const BGT: usize = 4;
-
-pub(crate) const JD: usize = 5;
-
-pub(crate) const JMP: usize = 6;
-
-pub(crate) const LD: usize = 7;
-
-pub(crate) const ST: usize = 8;
-
-pub(crate) const ILLEGAL: usize = 9;
+impl Kind {
+    fn of_opcode(op: u8) -> Option<Self> {
+        match op {
+            0 => Some(Self::Label),
+            1 => Some(Self::Add),
+            2 => Some(Self::Addi),
+            3 => Some(Self::Movi),
+            4 => Some(Self::Bgt),
+            5 => Some(Self::Jd),
+            6 => Some(Self::Jmp),
+            7 => Some(Self::Ld),
+            8 => Some(Self::St),
+            _ => None,
+        }
+    }
+}
 
 // An illegal word, and one that no address holds.
-pub(crate) const ONES: usize = 0xffff_ffff_ffff_ffff;
-
-const ANY: usize = 0xffff_ffff;
+pub(crate) const ONES: u64 = u64::MAX;
 
 #[derive(Clone, Copy)]
 pub(crate) struct Fields {
-    pub(crate) op: usize,
-    pub(crate) a: usize,
-    pub(crate) b: usize,
-    pub(crate) c: usize,
-    pub(crate) w: usize,
+    pub(crate) op: u8,
+    pub(crate) a: u8,
+    pub(crate) b: u8,
+    pub(crate) c: u8,
+    pub(crate) w: u32,
 }
 
-pub(crate) fn fields_of(word: usize) -> Fields {
-    Fields {
-        op: word >> 56,
-        a: (word >> 48) & 255,
-        b: (word >> 40) & 255,
-        c: (word >> 32) & 255,
-        w: word & ANY,
+impl From<u64> for Fields {
+    fn from(word: u64) -> Self {
+        let [op, a, b, c, w3, w2, w1, w0] = word.to_be_bytes();
+        let w = u32::from_be_bytes([w3, w2, w1, w0]);
+        Self { op, a, b, c, w }
     }
 }
 
-// The word of these fields, each cut to its width.
-pub(crate) fn word(op: usize, a: usize, b: usize, c: usize, w: usize) -> usize {
-    (op << 56) | ((a & 255) << 48) | ((b & 255) << 40) | ((c & 255) << 32) | (w & ANY)
+impl From<Fields> for u64 {
+    fn from(f: Fields) -> u64 {
+        let [w3, w2, w1, w0] = f.w.to_be_bytes();
+        u64::from_be_bytes([f.op, f.a, f.b, f.c, w3, w2, w1, w0])
+    }
 }
 
-fn within(f: Fields, a: usize, b: usize, c: usize, w: usize) -> bool {
-    (f.a <= a) & (f.b <= b) & (f.c <= c) & (f.w <= w)
+impl Fields {
+    fn within(self, a: u8, b: u8, c: u8, w: u32) -> bool {
+        self.a <= a && self.b <= b && self.c <= c && self.w <= w
+    }
+
+    // The fields are those of an exact form of this kind.
+    fn exact(self, kind: Kind) -> bool {
+        match kind {
+            Kind::Label | Kind::Jd => self.within(0, 0, 0, u32::MAX),
+            Kind::Add => self.within(31, 31, 31, 0),
+            Kind::Addi | Kind::Bgt | Kind::Ld | Kind::St => self.within(31, 31, 0, u32::MAX),
+            Kind::Movi => self.within(31, 0, 0, u32::MAX),
+            Kind::Jmp => self.within(31, 0, 0, 0),
+        }
+    }
 }
 
-// The opcode of a word that is an exact form, or ILLEGAL.
-pub(crate) fn kind(word: usize) -> usize {
-    let f = fields_of(word);
-    let op = f.op;
-    let exact = match op {
-        LABEL => within(f, 0, 0, 0, ANY),
-        ADD => within(f, 31, 31, 31, 0),
-        ADDI => within(f, 31, 31, 0, ANY),
-        MOVI => within(f, 31, 0, 0, ANY),
-        BGT => within(f, 31, 31, 0, ANY),
-        JD => within(f, 0, 0, 0, ANY),
-        JMP => within(f, 31, 0, 0, 0),
-        LD => within(f, 31, 31, 0, ANY),
-        ST => within(f, 31, 31, 0, ANY),
-        _ => false,
-    };
-    if exact { op } else { ILLEGAL }
+// The word of these fields.
+pub(crate) fn word(kind: Kind, a: u8, b: u8, c: u8, w: u32) -> u64 {
+    let op = kind as u8;
+    u64::from(Fields { op, a, b, c, w })
+}
+
+// The low half of an address or a number, as a word's field holds it.
+pub(crate) fn low(x: usize) -> u32 {
+    (x % 0x1_0000_0000) as u32
+}
+
+// The kind of a word that is an exact form.
+pub(crate) fn kind_of(word: u64) -> Option<Kind> {
+    let f = Fields::from(word);
+    let kind = Kind::of_opcode(f.op)?;
+    f.exact(kind).then_some(kind)
 }
 
 // The word at an address, and an illegal one past the end.
-pub(crate) fn at(memory: &[u64], address: usize) -> usize {
-    if address < memory.len() {
-        memory[address] as usize
-    } else {
-        ONES
-    }
+pub(crate) fn at(memory: &[u64], address: usize) -> u64 {
+    memory.get(address).copied().unwrap_or(ONES)
 }
 
-pub(crate) fn kind_at(memory: &[u64], address: usize) -> usize {
-    kind(at(memory, address))
+pub(crate) fn kind_at(memory: &[u64], address: usize) -> Option<Kind> {
+    kind_of(at(memory, address))
 }

@@ -4,33 +4,39 @@ use mathlib.Core.Bool.{true, false}
 use mathlib.Core.List.{List, ◌++◌, append_assoc}
 use Prim.Native.Nat.{ℕ, ◌+◌, ◌*◌, ◌/◌, ◌≤◌, ◌<◌}
 use native.Mathlib.Omega.{arith}
-use native.Mathlib.Nat.{mul-one, mul_assoc}
-use lib.ListN.{length, take, drop, length-append, length-drop}
-use lib.Seq.{sets, take_at, drop_at, drop-drop, take_all}
+use native.Mathlib.Nat.{mul_assoc}
+use lib.ListN.{length, take, drop, length-append}
+use lib.Seq.{sets, sets-eq, take_at, drop_at, drop-drop, take_all}
+use lib.Dec.{ltb}
+use borrow.Rule.Slice.PartMut.{put_mid}
 use borrow.Author.Tests.{lt-ltb, le-ltb}
-use Rattle.lists.proofs.Bools.{clash}
 use Rattle.answers.specs.declared.Refusal.{Refusal}
 use Rattle.answers.specs.declared.Place.{Place}
+use Rattle.answers.specs.Faults.{fault}
+use Rattle.std.specs.Prelude.{Some, None, Ok, Err}
 use Rattle.lists.specs.Places.{shorter, put_over}
-use Rattle.lists.specs.Search.{lowest}
+use Rattle.lists.specs.Search.{lowest, first}
+use Rattle.lists.proofs.Search.{lowest_none}
+use Rattle.lists.proofs.First.{first_clean, first_found}
 use Rattle.graph.specs.Claim.{edge_count}
 use Rattle.parcel.specs.Bytes.{bytes_of, numbers_of, all_bytes_of}
-use Rattle.parcel.specs.Parcel.{Content, holds, refused, read_of, counts_of, section_of, parcel_of}
+use Rattle.parcel.specs.Parcel.{counts, Content, read_of, counts_of, section_of, parcel_of}
 use Rattle.parcel.specs.Theorems.{AllBelow}
-use Rattle.parcel.specs.declared.Read.{Read}
-use Rattle.parcel.specs.declared.Written.{Written}
 use Rattle.lists.proofs.Places.{over_front, sets_append}
 use Rattle.parcel.proofs.Numbers.{length_bytes}
 use Rattle.parcel.proofs.Runs.{length_numbers, length_all_bytes}
 use Rattle.parcel.proofs.Sections.{length_section}
 use Rattle.parcel.proofs.ReaderAnswers.{Whole, whole}
-use Rattle.parcel.proofs.RoundTrips.{bytes_of_numbers, below_drop, parcel_written}
+use Rattle.parcel.proofs.RoundTrips.{parcel_written}
 use Rattle.editions.specs.Converters.{bytes_for, is_wide, first_wide, WidenedSo, NarrowedSo}
 
--- k bytes are copied
-copied : (k at : ℕ) (s : List ℕ) → AllBelow 256 s → at + k ≤ length s → all_bytes_of 1 (numbers_of 1 k (drop at s)) ≡ take k (drop at s)
-copied k at s below l =
-    bytes_of_numbers 1 k (drop at s) (below_drop at s below) (simp (mul-one, length-drop) (omega arith)) ∙ ap (λ (n : ℕ). take n (drop at s)) (mul-one k)
+-- a part replaced by as many bytes
+pub put_part : (a k : ℕ) (xs ys : List ℕ) → length ys ≡ k → a + k ≤ length xs → put_mid a k xs ys ≡ sets xs a ys
+put_part a k xs ys e l =
+    let f : a + length ys ≤ length xs = omega (arith, e) in
+    ap (λ (p : List ℕ). take a xs ++ (ys ++ p)) (drop-drop k a xs ∙ ap (λ (n : ℕ). drop (a + n) xs) (sym e))
+    ∙ sym (append_assoc (take a xs) ys (drop (a + length ys) xs))
+    ∙ sym (sets-eq ys xs a f)
 
 module _ (code edges words : List ℕ) where
   -- up to the edge numbers
@@ -88,9 +94,9 @@ module _ (w v : ℕ) (s p : List ℕ) {n e d : ℕ} (below : AllBelow 256 s) (t 
 
   -- three pieces, each where the one before it ends, are the parcel of the other edition
   pub pieces_put : {p₁ p₂ p₃ : List ℕ} → 8 + n * 8 + e * (2 * v) + (4 + d * 8) ≤ length p
-      → p₁ ≡ sets p 0 (all_bytes_of 1 (numbers_of 1 (8 + n * 8) (drop 0 s)))
+      → p₁ ≡ sets p 0 (take (8 + n * 8) (drop 0 s))
       → p₂ ≡ sets p₁ (8 + n * 8) (all_bytes_of v (numbers_of w (e * 2) (drop (8 + n * 8) s)))
-      → p₃ ≡ sets p₂ (8 + n * 8 + e * (2 * v)) (all_bytes_of 1 (numbers_of 1 (4 + d * 8) (drop (8 + n * 8 + e * (2 * w)) s)))
+      → p₃ ≡ sets p₂ (8 + n * 8 + e * (2 * v)) (take (4 + d * 8) (drop (8 + n * 8 + e * (2 * w)) s))
       → p₃ ≡ put_over (bytes_for v (read_of w s)) p
   pieces_put room a b c =
       let long = t.long in
@@ -98,87 +104,73 @@ module _ (w v : ℕ) (s p : List ℕ) {n e d : ℕ} (below : AllBelow 256 s) (t 
       let y = all_bytes_of v edges in
       let z = section_of 8 1 words in
       let z_long : length z ≡ 4 + d * 8 = length_section 8 1 words ∙ ap (λ (k : ℕ). 4 + k * 8) (length_numbers 8 d _) in
-      let x_is : all_bytes_of 1 (numbers_of 1 (8 + n * 8) (drop 0 s)) ≡ x = copied (8 + n * 8) 0 s below (omega arith) ∙ front_is in
-      let z_is : all_bytes_of 1 (numbers_of 1 (4 + d * 8) (drop (8 + n * 8 + e * (2 * w)) s)) ≡ z =
-      copied (4 + d * 8) (8 + n * 8 + e * (2 * w)) s below (omega arith) ∙ ap (take (4 + d * 8)) back_is ∙ take_all (4 + d * 8) z (omega arith) in
+      let z_is : take (4 + d * 8) (drop (8 + n * 8 + e * (2 * w)) s) ≡ z = ap (take (4 + d * 8)) back_is ∙ take_all (4 + d * 8) z (omega arith) in
       let x_end : 8 + n * 8 ≡ 0 + length x = omega (arith, front_long) in
       let y_end : 8 + n * 8 + e * (2 * v) ≡ 0 + length x + length y = omega (arith, front_long, middle_long v) in
       let whole_long : length (x ++ (y ++ z)) ≡ 8 + n * 8 + e * (2 * v) + (4 + d * 8) =
       length-append x (y ++ z) ∙ ap₂ (λ (a b : ℕ). a + b) front_long (length-append y z ∙ ap₂ (λ (a b : ℕ). a + b) (middle_long v) z_long) ∙ omega arith in
       c ∙ (λ j. sets (b j) (y_end j) (z_is j)) ∙ (λ j. sets (sets (a j) (x_end j) y) (0 + length x + length y) z)
-      ∙ (λ j. sets (sets (sets p 0 (x_is j)) (0 + length x) y) (0 + length x + length y) z)
+      ∙ (λ j. sets (sets (sets p 0 (front_is j)) (0 + length x) y) (0 + length x + length y) z)
       ∙ sym (sets_append x (y ++ z) p 0 ∙ sets_append y z (sets p 0 x) (0 + length x))
       ∙ over_front (x ++ (y ++ z)) p (omega (arith, whole_long))
       ∙ ap (λ (l : List ℕ). put_over l p) (sym (parts code edges words v) ∙ sym (ap (bytes_for v) t.is))
 
 -- how long bytes are that were counted
-pub counted_long : (w : ℕ) (s : List ℕ) {n e d : ℕ} → Read.Counts n e d ≡ counts_of (read_of w s) → length s ≡ 12 + n * 8 + e * (2 * w) + d * 8
+pub counted_long : (w : ℕ) (s : List ℕ) {n e d : ℕ} → Ok (counts n e d) ≡ counts_of (read_of w s) → length s ≡ 12 + n * 8 + e * (2 * w) + d * 8
 counted_long w s h = (whole w s (sym h)).long
 
 -- ---- the answers
 
--- the reader's refusal is handed on
-handed : {why r : Refusal} {at : Place} → Read.Refused why at ≡ Read.Refused r Place.Nowhere → Written.Refused why at ≡ Written.Refused r Place.Nowhere
-handed h = cc
-
-pub widen_refused : (s p : List ℕ) {why : Refusal} {at : Place} → Read.Refused why at ≡ counts_of (read_of 2 s) → WidenedSo s p (Written.Refused why at) p
-widen_refused s p {why} {at} = go (read_of 2 s) refl
-  where
-    go : (x : Content) → read_of 2 s ≡ x → Read.Refused why at ≡ counts_of x → WidenedSo s p (Written.Refused why at) p
-    go (holds code edges words) e h = clash (cc)
-    go (refused r) e h = record { answers = rw e (handed h); bytes = refl }
-
-pub narrow_refused : (s p : List ℕ) {why : Refusal} {at : Place} → Read.Refused why at ≡ counts_of (read_of 4 s) → NarrowedSo s p (Written.Refused why at) p
-narrow_refused s p {why} {at} = go (read_of 4 s) refl
-  where
-    go : (x : Content) → read_of 4 s ≡ x → Read.Refused why at ≡ counts_of x → NarrowedSo s p (Written.Refused why at) p
-    go (holds code edges words) e h = clash (cc)
-    go (refused r) e h = record { answers = rw e (handed h); bytes = refl }
-
-module _ (s p : List ℕ) {n e d : ℕ} (h : Read.Counts n e d ≡ counts_of (read_of 2 s)) where
+module _ (s p : List ℕ) {n e d : ℕ} (h : Ok (counts n e d) ≡ counts_of (read_of 2 s)) where
   abbrev wide_size : ℕ
   wide_size = 8 + n * 8 + e * 8 + (4 + d * 8)
 
-  pub widen_short : AllBelow 256 s → length p < wide_size → WidenedSo s p (Written.Refused Refusal.PlaceTooShort Place.Nowhere) p
+  pub widen_short : AllBelow 256 s → length p < wide_size → WidenedSo s p (Err (fault Refusal.PlaceTooShort Place.Nowhere)) p
   widen_short below l =
       let t = whole 2 s (sym h) in
       let short : shorter p (length (bytes_for 4 (read_of 2 s))) ≡ true = rw (size_is 2 4 s p below t) (lt-ltb (length p) wide_size l) in
       record { answers = rw short (rw t.is); bytes = refl }
 
-  pub widen_done : {p' : List ℕ} → AllBelow 256 s → wide_size ≤ length p → p' ≡ put_over (bytes_for 4 (read_of 2 s)) p → WidenedSo s p (Written.Bytes wide_size) p'
+  pub widen_done : {p' : List ℕ} → AllBelow 256 s → wide_size ≤ length p → p' ≡ put_over (bytes_for 4 (read_of 2 s)) p → WidenedSo s p (Ok wide_size) p'
   widen_done below l q =
       let t = whole 2 s (sym h) in
       let size = size_is 2 4 s p below t in
       let room : shorter p (length (bytes_for 4 (read_of 2 s))) ≡ false = rw size (le-ltb (length p) wide_size l) in
-      record { answers = rw room (ap Written.Bytes (sym size) ∙ rw t.is); bytes = q }
+      record { answers = rw room (ap (λ (k : ℕ). Ok k) (sym size) ∙ rw t.is); bytes = q }
 
-module _ (s p : List ℕ) {n e d : ℕ} (h : Read.Counts n e d ≡ counts_of (read_of 4 s)) where
+module _ (s p : List ℕ) {n e d : ℕ} (h : Ok (counts n e d) ≡ counts_of (read_of 4 s)) where
   abbrev narrow_size : ℕ
   narrow_size = 8 + n * 8 + e * 4 + (4 + d * 8)
 
   -- the first edge with an address above 65,535, as the code finds it
-  module _ {first : ℕ} (f : first ≡ lowest (is_wide (numbers_of 4 (e * 2) (drop (8 + n * 8) s))) e) where
-    many : edge_count (numbers_of 4 (e * 2) (drop (8 + n * 8) s)) ≡ e
-    many = let long = length_numbers 4 (e * 2) (drop (8 + n * 8) s) in omega arith
+  abbrev found : List ℕ
+  found = numbers_of 4 (e * 2) (drop (8 + n * 8) s)
 
-    found : first ≡ first_wide (numbers_of 4 (e * 2) (drop (8 + n * 8) s))
-    found = f ∙ ap (lowest (is_wide (numbers_of 4 (e * 2) (drop (8 + n * 8) s)))) (sym many)
+  many : edge_count found ≡ e
+  many = let long = length_numbers 4 (e * 2) (drop (8 + n * 8) s) in omega arith
 
-    pub too_wide : first < e → NarrowedSo s p (Written.Refused Refusal.EdgeTooWide (Place.Edge first)) p
-    too_wide l =
+  pub too_wide : {edge : ℕ} → Some edge ≡ first (is_wide found) e → NarrowedSo s p (Err (fault Refusal.EdgeTooWide (Place.Edge edge))) p
+  too_wide {edge} f =
+      let t = whole 4 s (sym h) in
+      let q = first_found (is_wide found) e edge f in
+      let at : edge ≡ first_wide found = q.1 ∙ ap (lowest (is_wide found)) (sym many) in
+      record { answers = rw t.is (rw (← at, many, lt-ltb edge e q.0)); bytes = refl }
+
+  module _ (none : None ≡ first (is_wide found) e) (below : AllBelow 256 s) where
+    all_narrow : ltb (first_wide found) (edge_count found) ≡ false
+    all_narrow =
+        let none_wide = lowest_none (is_wide found) e e refl (first_clean (is_wide found) e none) in
+        rw many (rw (← none_wide) (le-ltb e e (omega arith)))
+
+    pub narrow_short : length p < narrow_size → NarrowedSo s p (Err (fault Refusal.PlaceTooShort Place.Nowhere)) p
+    narrow_short l =
         let t = whole 4 s (sym h) in
-        record { answers = rw t.is (rw (← found, many, lt-ltb first e l)); bytes = refl }
+        let short : shorter p (length (bytes_for 2 (read_of 4 s))) ≡ true = rw (size_is 4 2 s p below t) (lt-ltb (length p) narrow_size l) in
+        record { answers = rw short (rw t.is (rw all_narrow)); bytes = refl }
 
-    module _ (none : e ≤ first) (below : AllBelow 256 s) where
-      pub narrow_short : length p < narrow_size → NarrowedSo s p (Written.Refused Refusal.PlaceTooShort Place.Nowhere) p
-      narrow_short l =
-          let t = whole 4 s (sym h) in
-          let short : shorter p (length (bytes_for 2 (read_of 4 s))) ≡ true = rw (size_is 4 2 s p below t) (lt-ltb (length p) narrow_size l) in
-          record { answers = rw short (rw t.is (rw (← found, many, le-ltb first e none))); bytes = refl }
-
-      pub narrow_done : {p' : List ℕ} → narrow_size ≤ length p → p' ≡ put_over (bytes_for 2 (read_of 4 s)) p → NarrowedSo s p (Written.Bytes narrow_size) p'
-      narrow_done l q =
-          let t = whole 4 s (sym h) in
-          let size = size_is 4 2 s p below t in
-          let room : shorter p (length (bytes_for 2 (read_of 4 s))) ≡ false = rw size (le-ltb (length p) narrow_size l) in
-          record { answers = rw room (ap Written.Bytes (sym size) ∙ rw t.is (rw (← found, many, le-ltb first e none))); bytes = q }
+    pub narrow_done : {p' : List ℕ} → narrow_size ≤ length p → p' ≡ put_over (bytes_for 2 (read_of 4 s)) p → NarrowedSo s p (Ok narrow_size) p'
+    narrow_done l q =
+        let t = whole 4 s (sym h) in
+        let size = size_is 4 2 s p below t in
+        let room : shorter p (length (bytes_for 2 (read_of 4 s))) ≡ false = rw size (le-ltb (length p) narrow_size l) in
+        record { answers = rw room (ap (λ (k : ℕ). Ok k) (sym size) ∙ rw t.is (rw all_narrow)); bytes = q }

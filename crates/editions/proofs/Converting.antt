@@ -5,9 +5,9 @@ use mathlib.Core.List.{List, [], ◌∷◌, ◌++◌}
 use Prim.Native.Nat.{ℕ, zero, suc, ◌+◌, ◌*◌, ◌/◌, ◌%◌, ◌≤◌, ◌<◌}
 use native.Mathlib.Omega.{arith}
 use native.Mathlib.Decide.{dec_lt}
-use native.Mathlib.Nat.{zero-mul, suc-mul, mul-one, add_comm}
+use native.Mathlib.Nat.{zero-mul, suc-mul, add_comm}
 use lib.Dec.{ltb, leb}
-use lib.ListN.{get_or, drop, set}
+use lib.ListN.{get_or, drop}
 use lib.Seq.{drop-drop, sets}
 use borrow.Author.Tests.{lt-ltb, le-ltb, lt-leb, le-leb}
 use Rattle.parcel.specs.Bytes.{number_of, bytes_of, numbers_of, all_bytes_of}
@@ -61,13 +61,6 @@ four_bytes : (s : List ℕ) (at : ℕ) → number_of 4 (drop at s) ≡ number_of
 four_bytes s at = sym (number_halves 2 s at refl refl)
 
 module _ (s : List ℕ) (below : AllBelow 256 s) (at : ℕ) where
-  -- a byte is itself
-  pub byte_kept : get_or s at 0 ∷ [] ≡ bytes_of 1 (number_of 1 (drop at s))
-  unfolding bytes_of
-  byte_kept =
-      let e : get_or s at 0 ≡ number_of 1 (drop at s) % 256 = omega (arith, below at, number_byte s at) in
-      ap (λ (x : ℕ). x ∷ []) e
-
   -- a number of two bytes has two bytes of 0 more
   bytes_widened : (get_or s at 0 ∷ get_or s (at + 1) 0 ∷ []) ++ (0 ∷ 0 ∷ []) ≡ bytes_of 4 (number_of 2 (drop at s))
   unfolding bytes_of
@@ -112,11 +105,6 @@ module _ (s : List ℕ) (below : AllBelow 256 s) (at : ℕ) where
 -- ---- what is stored in a turn
 
 module _ (s : List ℕ) (below : AllBelow 256 s) (to : List ℕ) where
-  pub byte_put : (p at i : ℕ) → set to (p + i) (get_or s (at + i) 0) ≡ sets to (p + i * 1) (bytes_of 1 (number_of 1 (drop (at + i * 1) s)))
-  byte_put p at i =
-      ap (sets to (p + i)) (byte_kept s below (at + i))
-      ∙ (λ j. sets to (p + sym (mul-one i) j) (bytes_of 1 (number_of 1 (drop (at + sym (mul-one i) j) s))))
-
   -- an edge widened, in the turn of the loop: each number with two bytes of 0
   pub edge_widened : (start at k : ℕ) {to₁ to₂ : List ℕ}
       → let from = at + k * 4 in

@@ -18,7 +18,8 @@ use Rattle.lists.proofs.Search.{lowest_ext, clean_of}
 use Rattle.answers.specs.Shape.{memory_shaped, edges_shaped, call_shaped}
 use Rattle.answers.specs.declared.Refusal.{Refusal}
 use Rattle.answers.specs.declared.Place.{Place}
-use Rattle.answers.specs.declared.Verdict.{Verdict}
+use Rattle.answers.specs.Faults.{fault}
+use Rattle.std.specs.Prelude.{Err}
 use Rattle.isa.specs.declared.Technique.{Technique}
 use Rattle.isa.specs.Instructions.{instr_at, is_jump}
 use Rattle.graph.specs.Claim.{edge_count, jump_of, target_of}
@@ -39,11 +40,11 @@ module _ (t : Technique) (memory : List ℕ) (n : ℕ) (edges : List ℕ) (shape
   abbrev pub eight : ℕ
   eight = lowest (ends_outside_code n edges) (edge_count edges)
 
-  pub by_seven : seven < edge_count edges → verdict_of t memory n edges ≡ Verdict.Refused Refusal.EdgeFromNoJump (Place.Edge seven)
+  pub by_seven : seven < edge_count edges → verdict_of t memory n edges ≡ Err (fault Refusal.EdgeFromNoJump (Place.Edge seven))
   unfolding verdict_of
   by_seven l = kept_once _ _ _ _ (ap not shape) ∙ broken _ _ seven refl l
 
-  pub by_eight : edge_count edges ≤ seven → eight < edge_count edges → verdict_of t memory n edges ≡ Verdict.Refused Refusal.TargetOutsideCode (Place.Edge eight)
+  pub by_eight : edge_count edges ≤ seven → eight < edge_count edges → verdict_of t memory n edges ≡ Err (fault Refusal.TargetOutsideCode (Place.Edge eight))
   unfolding verdict_of
   by_eight p l = kept_once _ _ _ _ (ap not shape) ∙ kept _ _ seven refl p ∙ broken _ _ eight refl l
 
@@ -134,11 +135,11 @@ module _ (t : Technique) (memory : List ℕ) (n : ℕ) (edges : List ℕ) (shape
           → verdict_of t memory n (cut_all edges) ≡ verdict_of t memory n edges
       go (yes p) q =
           by_seven t memory n (cut_all edges) cut_shape (omega (arith, same_seven, as_many))
-          ∙ ap (λ (k : ℕ). Verdict.Refused Refusal.EdgeFromNoJump (Place.Edge k)) same_seven
+          ∙ ap (λ (k : ℕ). Err (fault Refusal.EdgeFromNoJump (Place.Edge k))) same_seven
           ∙ sym (by_seven t memory n edges shape p)
       go (no p) (yes q) =
           by_eight t memory n (cut_all edges) cut_shape (omega (arith, same_seven, as_many)) (omega (arith, same_eight, as_many))
-          ∙ ap (λ (k : ℕ). Verdict.Refused Refusal.TargetOutsideCode (Place.Edge k)) same_eight
+          ∙ ap (λ (k : ℕ). Err (fault Refusal.TargetOutsideCode (Place.Edge k))) same_eight
           ∙ sym (by_eight t memory n edges shape (omega arith) q)
       go (no p) (no q) = ap (verdict_of t memory n) (nothing_cut (in_code t memory n edges shape (omega arith) (omega arith)))
 
@@ -148,9 +149,6 @@ pub record Cutting (xs low₀ low : List ℕ) (i : ℕ) : Type 0 where
   pub within : i ≤ length xs
   pub same : sets low₀ 0 (cut_all xs) ≡ sets low i (cut_all (drop i xs))
   pub long : length low ≡ length low₀
-
-pub cutting_starts : {xs low : List ℕ} → Cutting xs low low 0
-cutting_starts = record { within = omega arith; same = refl; long = refl }
 
 pub cutting_goes_on : {xs low₀ low : List ℕ} {i x : ℕ} → Cutting xs low₀ low i → i < length xs → x ≡ cut_of (get_or xs i 0) → Cutting xs low₀ (set low i x) (i + 1)
 unfolding cut_all

@@ -17,14 +17,16 @@ use Rattle.lists.proofs.Search.{lowest_is, lowest_none, clean_of}
 use Rattle.answers.specs.Shape.{call_shaped}
 use Rattle.answers.specs.declared.Refusal.{Refusal}
 use Rattle.answers.specs.declared.Place.{Place}
+use Rattle.answers.specs.declared.Fault.{Fault}
+use Rattle.answers.specs.Faults.{fault}
+use Rattle.std.specs.Prelude.{Ok, Err}
 use Rattle.isa.specs.declared.Technique.{Technique}
 use Rattle.checker.specs.Verdicts.{verdict_of}
 use Rattle.graph.specs.Claim.{edge_count, jump_of, target_of}
 use Rattle.graph.specs.Passes.{Within}
 use Rattle.parcel.specs.Bytes.{number_of, numbers_of}
-use Rattle.parcel.specs.Parcel.{Content, holds, refused, read_of, counts_of, parcel_of}
+use Rattle.parcel.specs.Parcel.{Written, Content, holds, refused, read_of, counts_of, parcel_of}
 use Rattle.parcel.specs.Theorems.{AllBelow, WrittenBack}
-use Rattle.parcel.specs.declared.Written.{Written}
 use Rattle.parcel.proofs.Runs.{length_numbers}
 use Rattle.parcel.proofs.ReaderAnswers.{Whole, whole}
 use Rattle.parcel.proofs.RoundTrips.{below_drop, parcel_read, parcel_written}
@@ -128,34 +130,34 @@ record Put (x : Content) (v k : ℕ) (p p' : List ℕ) : Type 0 where
   pub narrow : v ≡ 2 → edge_count edges ≤ first_wide edges
   pub bytes : take k p' ≡ parcel_of v code edges words
 
-made : (short : Bool) (k size : ℕ) → Written.Bytes k ≡ cond short (Written.Refused Refusal.PlaceTooShort Place.Nowhere) (Written.Bytes size) → k ≡ size
+made : (short : Bool) (k size : ℕ) → Ok k ≡ cond short (Err (fault Refusal.PlaceTooShort Place.Nowhere)) (Ok size) → k ≡ size
 made true k size h = clash (cc)
 made false k size h = cc
 
 front : (k : ℕ) (xs p : List ℕ) {p' : List ℕ} → k ≡ length xs → p' ≡ put_over xs p → take k p' ≡ xs
 front k xs p e q = ap (take k) q ∙ take_at xs (drop (length xs) p) k (sym e)
 
-widened_put : (s : List ℕ) (k : ℕ) (p p' : List ℕ) → WidenedSo s p (Written.Bytes k) p' → Put (read_of 2 s) 4 k p p'
+widened_put : (s : List ℕ) (k : ℕ) (p p' : List ℕ) → WidenedSo s p (Ok k) p' → Put (read_of 2 s) 4 k p p'
 widened_put s k p p' so = go (read_of 2 s) so.answers so.bytes
   where
-    go : (x : Content) → Written.Bytes k ≡ widened_of (shorter p (length (bytes_for 4 x))) x → p' ≡ put_over (bytes_for 4 x) p → Put x 4 k p p'
+    go : (x : Content) → Ok k ≡ widened_of (shorter p (length (bytes_for 4 x))) x → p' ≡ put_over (bytes_for 4 x) p → Put x 4 k p p'
     go (holds code edges words) a b =
         let e = made (shorter p (length (parcel_of 4 code edges words))) k (length (parcel_of 4 code edges words)) a in
         record { code = code; edges = edges; words = words; content = refl; narrow = λ z. absurd (omega arith); bytes = front k (parcel_of 4 code edges words) p e b }
     go (refused why) a b = clash (cc)
 
-none_found : (found : Bool) (at : Place) (w : Written) {k : ℕ} → Written.Bytes k ≡ cond found (Written.Refused Refusal.EdgeTooWide at) w → (found ≡ false) × (Written.Bytes k ≡ w)
+none_found : (found : Bool) (at : Place) (w : Written) {k : ℕ} → Ok k ≡ cond found (Err (fault Refusal.EdgeTooWide at)) w → (found ≡ false) × (Ok k ≡ w)
 none_found true at w h = clash (cc)
 none_found false at w h = (refl, h)
 
-narrowed_put : (s : List ℕ) (k : ℕ) (p p' : List ℕ) → NarrowedSo s p (Written.Bytes k) p' → Put (read_of 4 s) 2 k p p'
+narrowed_put : (s : List ℕ) (k : ℕ) (p p' : List ℕ) → NarrowedSo s p (Ok k) p' → Put (read_of 4 s) 2 k p p'
 narrowed_put s k p p' so = go (read_of 4 s) so.answers so.bytes
   where
-    go : (x : Content) → Written.Bytes k ≡ narrowed_of (shorter p (length (bytes_for 2 x))) x → p' ≡ put_over (bytes_for 2 x) p → Put x 2 k p p'
+    go : (x : Content) → Ok k ≡ narrowed_of (shorter p (length (bytes_for 2 x))) x → p' ≡ put_over (bytes_for 2 x) p → Put x 2 k p p'
     go (holds code edges words) a b =
         let bytes = parcel_of 2 code edges words in
         let short = shorter p (length bytes) in
-        let f = none_found (ltb (first_wide edges) (edge_count edges)) (Place.Edge (first_wide edges)) (cond short (Written.Refused Refusal.PlaceTooShort Place.Nowhere) (Written.Bytes (length bytes))) a in
+        let f = none_found (ltb (first_wide edges) (edge_count edges)) (Place.Edge (first_wide edges)) (cond short (Err (fault Refusal.PlaceTooShort Place.Nowhere)) (Ok (length bytes))) a in
         let e = made short k (length bytes) f.1 in
         record {
           code = code;
@@ -197,7 +199,7 @@ module _ (s : List ℕ) (k : ℕ) (p p' : List ℕ) where
         let content : read_of 4 (take k p') ≡ holds x.code x.edges x.words = widening w ∙ x.content in
         let same : parcel_of 2 x.code x.edges x.words ≡ s = parcel_written 2 s w.are_bytes x.content in
         let fine : ltb (first_wide x.edges) (edge_count x.edges) ≡ false = le-ltb (first_wide x.edges) (edge_count x.edges) (none_wide x.edges f.edges_below) in
-        let size : answer ≡ Written.Bytes (length s) =
+        let size : answer ≡ Ok (length s) =
         so.answers ∙ rw (content, fine, same, le-ltb (length q) (length s) room) in
         record { size = size; bytes = so.bytes ∙ rw (size, content, same) }
 
@@ -206,7 +208,7 @@ module _ (s : List ℕ) (k : ℕ) (p p' : List ℕ) where
         let x = narrowed_put s k p p' w.so in
         let content : read_of 2 (take k p') ≡ holds x.code x.edges x.words = narrowing w ∙ x.content in
         let same : parcel_of 4 x.code x.edges x.words ≡ s = parcel_written 4 s w.are_bytes x.content in
-        let size : answer ≡ Written.Bytes (length s) =
+        let size : answer ≡ Ok (length s) =
         so.answers ∙ rw (content, same, le-ltb (length q) (length s) room) in
         record { size = size; bytes = so.bytes ∙ rw (size, content, same) }
 
@@ -236,10 +238,13 @@ module _ (t : Technique) (code edges words : List ℕ) (shape : call_shaped (len
 
 -- 19 with an edge: the bytes are read, and there is such an edge
 found_wide : (found short : Bool) (size k k' : ℕ)
-    → Written.Refused Refusal.EdgeTooWide (Place.Edge k) ≡ cond found (Written.Refused Refusal.EdgeTooWide (Place.Edge k')) (cond short (Written.Refused Refusal.PlaceTooShort Place.Nowhere) (Written.Bytes size))
+    → Err (fault Refusal.EdgeTooWide (Place.Edge k)) ≡ cond found (Err (fault Refusal.EdgeTooWide (Place.Edge k'))) (cond short (Err (fault Refusal.PlaceTooShort Place.Nowhere)) (Ok size))
     → found ≡ true
 found_wide true short size k k' h = refl
-found_wide false true size k k' h = clash (cc)
+found_wide false true size k k' h =
+    let same : fault Refusal.EdgeTooWide (Place.Edge k) ≡ fault Refusal.PlaceTooShort Place.Nowhere = cc in
+    let why : Refusal.EdgeTooWide ≡ Refusal.PlaceTooShort = ap (λ (f : Fault). f.refusal) same in
+    clash (cc)
 found_wide false false size k k' h = clash (cc)
 
 shaped_held : (s : List ℕ) {code edges words : List ℕ} → read_of 4 s ≡ holds code edges words → call_shaped (length (code ++ words)) (length code) (length edges) ≡ true
@@ -252,15 +257,18 @@ shaped_held s {code} {edges} {words} h = go (whole 4 s (ap counts_of h))
         ap₂ (λ (a b : ℕ). call_shaped a (length code) b) (length-append code words) pairs
         ∙ takes (length code) (length edges / 2) (length words) t.some_code t.code_limit t.edge_limit t.data_limit
 
-turned_away : (t : Technique) (s p p' : List ℕ) (k : ℕ) → NarrowedSo s p (Written.Refused Refusal.EdgeTooWide (Place.Edge k)) p' → OutsideCode (parcel_verdict t (read_of 4 s))
+turned_away : (t : Technique) (s p p' : List ℕ) (k : ℕ) → NarrowedSo s p (Err (fault Refusal.EdgeTooWide (Place.Edge k))) p' → OutsideCode (parcel_verdict t (read_of 4 s))
 turned_away t s p p' k so = go (read_of 4 s) refl so.answers
   where
-    go : (x : Content) → read_of 4 s ≡ x → Written.Refused Refusal.EdgeTooWide (Place.Edge k) ≡ narrowed_of (shorter p (length (bytes_for 2 x))) x → OutsideCode (parcel_verdict t x)
+    go : (x : Content) → read_of 4 s ≡ x → Err (fault Refusal.EdgeTooWide (Place.Edge k)) ≡ narrowed_of (shorter p (length (bytes_for 2 x))) x → OutsideCode (parcel_verdict t x)
     go (holds code edges words) e a =
         refused_outside t code edges words (shaped_held s e)
         (ltb-true (first_wide edges) (edge_count edges)
         (found_wide (ltb (first_wide edges) (edge_count edges)) (shorter p (length (parcel_of 2 code edges words))) (length (parcel_of 2 code edges words)) k (first_wide edges) a))
-    go (refused why) e a = clash (cc)
+    go (refused why) e a =
+        let same : fault Refusal.EdgeTooWide (Place.Edge k) ≡ fault why Place.Nowhere = cc in
+        let at : Place.Edge k ≡ Place.Nowhere = ap (λ (f : Fault). f.place) same in
+        clash (cc)
 
 pub two_editions : TwoEditions
 two_editions =

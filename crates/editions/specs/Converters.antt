@@ -4,9 +4,10 @@ use Rattle.lists.specs.Search.{lowest}
 use Rattle.lists.specs.Places.{shorter}
 use Rattle.answers.specs.declared.Refusal.{Refusal}
 use Rattle.answers.specs.declared.Place.{Place}
+use Rattle.answers.specs.Faults.{fault}
+use Rattle.std.specs.Prelude.{Ok, Err}
 use Rattle.graph.specs.Claim.{edge_count, jump_of, target_of}
-use Rattle.parcel.specs.Parcel.{Content, holds, refused, read_of, parcel_of, after_write}
-use Rattle.parcel.specs.declared.Written.{Written}
+use Rattle.parcel.specs.Parcel.{Written, Content, holds, refused, read_of, parcel_of, after_write}
 
 -- what bytes hold, as the bytes of an edition whose edge numbers have w bytes
 abbrev pub bytes_for : ℕ → Content → List ℕ
@@ -24,15 +25,15 @@ first_wide edges = lowest (is_wide edges) (edge_count edges)
 -- the reader's 1 to 4, then 5, where a place that is lent is too short
 abbrev pub widened_of : Bool → Content → Written
 widened_of short (holds code edges words) =
-    cond short (Written.Refused Refusal.PlaceTooShort Place.Nowhere) (Written.Bytes (length (parcel_of 4 code edges words)))
-widened_of short (refused why) = Written.Refused why Place.Nowhere
+    cond short (Err (fault Refusal.PlaceTooShort Place.Nowhere)) (Ok (length (parcel_of 4 code edges words)))
+widened_of short (refused why) = Err (fault why Place.Nowhere)
 
 -- "19, with the first such edge's place, by the narrowing converter after all reader checks and before 5"
 abbrev pub narrowed_of : Bool → Content → Written
 narrowed_of short (holds code edges words) =
-    cond (ltb (first_wide edges) (edge_count edges)) (Written.Refused Refusal.EdgeTooWide (Place.Edge (first_wide edges)))
-    (cond short (Written.Refused Refusal.PlaceTooShort Place.Nowhere) (Written.Bytes (length (parcel_of 2 code edges words))))
-narrowed_of short (refused why) = Written.Refused why Place.Nowhere
+    cond (ltb (first_wide edges) (edge_count edges)) (Err (fault Refusal.EdgeTooWide (Place.Edge (first_wide edges))))
+    (cond short (Err (fault Refusal.PlaceTooShort Place.Nowhere)) (Ok (length (parcel_of 2 code edges words))))
+narrowed_of short (refused why) = Err (fault why Place.Nowhere)
 
 -- what widening the bytes s over the place p comes to: a refusal changes nothing, and nothing is touched past what is put there
 pub record WidenedSo (s p : List ℕ) (answer : Written) (p' : List ℕ) : Type 0 where

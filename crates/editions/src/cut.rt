@@ -8,18 +8,13 @@ pub(crate) fn cut_into(edges: &[u32], low: &mut [u16])
     requires { length edges.now ≤ length low.old }
     ensures { low.new ≡ put_over (cut_all edges.now) low.old }
 {
-    let mut i = 0;
-    while i < edges.len() {
+    for i in 0..edges.len() {
         low[i] = cut(edges[i]);
-        i += 1;
     }
 }
 
 fn cut(x: u32) -> u16
     ensures { result ≡ cut_of x }
 {
-    if x < 65536 {
-        return x as u16;
-    }
-    65535
+    u16::try_from(x).unwrap_or(65535)
 }

@@ -1,30 +1,28 @@
 // Numbers in bytes, low byte first, put as numbers of another width.
-ghost use Rattle.std.specs.Prelude.{◌≡◌, ◌||◌, [], ◌∷◌, ◌+◌, ◌*◌, ◌≤◌, leb, length, drop};
+ghost use Rattle.std.specs.Prelude.{◌≡◌, ◌||◌, [], ◌∷◌, ◌+◌, ◌*◌, ◌≤◌, leb, length, take, drop};
 ghost use Rattle.std.proofs.lemmas.List.Edits.{sets};
-ghost use Rattle.lists.specs.Search.{lowest};
+ghost use Rattle.lists.specs.Search.{first};
 ghost use Rattle.parcel.specs.Bytes.{number_of, numbers_of, all_bytes_of};
 ghost use Rattle.editions.specs.Converters.{is_wide};
 
+use parcel::InBytes;
+
 // k bytes from at, as they are.
 pub(crate) fn copy(s: &[u8], at: usize, k: usize, to: &mut [u8], start: usize)
-    requires { (at + k * 1 ≤ length s.now) × (start + k * 1 ≤ length to.old) }
-    ensures { to.new ≡ sets to.old start (all_bytes_of 1 (numbers_of 1 k (drop at s.now))) }
+    requires { (at + k ≤ length s.now) × (start + k ≤ length to.old) }
+    ensures { to.new ≡ sets to.old start (take k (drop at s.now)) }
 {
-    let mut i = 0;
-    while i < k {
-        to[start + i] = s[at + i];
-        i += 1;
-    }
+    to[start..start + k].copy_from_slice(&s[at..at + k]);
 }
 
 // The edges from at on, two numbers of two bytes each, as numbers of four. An edge is read whole before it is put, so that the
-// compiler can move it at once.
+// compiler can move it at once. Of the two directions each has its loop: one over both widths would move the bytes of a number one by
+// one, or take a cast as a parameter, and be no plainer.
 pub(crate) fn widen_edges(s: &[u8], at: usize, edges: usize, to: &mut [u8], start: usize)
     requires { (at + edges * 4 ≤ length s.now) × (start + edges * 8 ≤ length to.old) }
     ensures { to.new ≡ sets to.old start (all_bytes_of 4 (numbers_of 2 (edges * 2) (drop at s.now))) }
 {
-    let mut k = 0;
-    while k < edges {
+    for k in 0..edges {
         let from = at + k * 4;
         let a = s[from];
         let b = s[from + 1];
@@ -32,7 +30,6 @@ pub(crate) fn widen_edges(s: &[u8], at: usize, edges: usize, to: &mut [u8], star
         let d = s[from + 3];
         put_four(to, start + k * 8, a, b, 0, 0);
         put_four(to, start + k * 8 + 4, c, d, 0, 0);
-        k += 1;
     }
 }
 
@@ -41,8 +38,7 @@ pub(crate) fn narrow_edges(s: &[u8], at: usize, edges: usize, to: &mut [u8], sta
     requires { (at + edges * 8 ≤ length s.now) × (start + edges * 4 ≤ length to.old) }
     ensures { to.new ≡ sets to.old start (all_bytes_of 2 (numbers_of 4 (edges * 2) (drop at s.now))) }
 {
-    let mut k = 0;
-    while k < edges {
+    for k in 0..edges {
         let from = at + k * 8;
         put_four(
             to,
@@ -52,23 +48,20 @@ pub(crate) fn narrow_edges(s: &[u8], at: usize, edges: usize, to: &mut [u8], sta
             s[from + 4],
             s[from + 5],
         );
-        k += 1;
     }
 }
 
-// Of the edges from at on, two numbers of four bytes each, the first with an address above 65,535, or their number.
-pub(crate) fn first_wide(s: &[u8], at: usize, edges: usize) -> usize
+// Of the edges from at on, two numbers of four bytes each, the first with an address above 65,535.
+pub(crate) fn first_wide(s: &[u8], at: usize, edges: usize) -> Option<usize>
     requires { at + edges * 8 ≤ length s.now }
-    ensures { result ≡ lowest (is_wide (numbers_of 4 (edges * 2) (drop at s.now))) edges }
+    ensures { result ≡ first (is_wide (numbers_of 4 (edges * 2) (drop at s.now))) edges }
 {
-    let mut k = 0;
-    while k < edges {
+    for k in 0..edges {
         if has_high_half(s, at + k * 8) {
-            return k;
+            return Some(k);
         }
-        k += 1;
     }
-    k
+    None
 }
 
 // Whether one of the two numbers of four bytes from at is above 65,535: its high half is not 0.
@@ -76,20 +69,7 @@ fn has_high_half(s: &[u8], at: usize) -> bool
     requires { at + 8 ≤ length s.now }
     ensures { result ≡ (leb 65536 (number_of 4 (drop at s.now)) || leb 65536 (number_of 4 (drop (at + 4) s.now))) }
 {
-    0 < two_at(s, at + 2) + two_at(s, at + 6)
-}
-
-fn two_at(s: &[u8], at: usize) -> u32
-    requires { at + 2 ≤ length s.now }
-    ensures { (result ≡ number_of 2 (drop at s.now)) × (result ≤ 65535) }
-{
-    wide(s[at]) + wide(s[at + 1]) * 256
-}
-
-fn wide(byte: u8) -> u32
-    ensures { (result ≡ byte) × (result ≤ 255) }
-{
-    byte as u32
+    0 < u16::read(s, at + 2) as u32 + u16::read(s, at + 6) as u32
 }
 
 fn put_four(s: &mut [u8], at: usize, a: u8, b: u8, c: u8, d: u8)

@@ -3,7 +3,7 @@ use Prim.Native.Nat.{ℕ, ◌<◌, ◌≤◌}
 use mathlib.Core.Path.{◌≡◌, refl, sym, ap, ◌∙◌}
 use mathlib.Core.Bool.{Bool, true, false, not, ◌&&◌, ◌||◌, or-false}
 use mathlib.Core.Logic.{◌⊎◌, inl, inr}
-use mathlib.Core.Option.{Option, none, some}
+use Rattle.std.specs.Prelude.{Option, None, Some}
 use mathlib.Core.List.{List}
 use native.Mathlib.Omega.{arith}
 use borrow.Author.Tests.{eqb-true, le-leb, lt-leb, le-ltb, lt-ltb}
@@ -47,10 +47,10 @@ module _ (memory : List ℕ) (n : ℕ) (edges own : List ℕ) (h : Owned edges n
 
   by_owner : (label : Option ℕ) (d : Bool) (o : ℕ) → ((d ≡ true) × (o < n)) ⊎ ((d ≡ false) × (n ≤ o))
       → label_amiss label o n ≡ ((d && not (is_label_of label o)) || (is_label label && not d))
-  by_owner none d o (inl c) = rw (c.0, lt-ltb o n c.1)
-  by_owner none d o (inr c) = rw (c.0, le-ltb o n c.1)
-  by_owner (some w) d o (inl c) = rw (c.0, lt-leb n o c.1) (sym (or-false (not (eqb w o))))
-  by_owner (some w) d o (inr c) = rw (c.0, le-leb n o c.1)
+  by_owner None d o (inl c) = rw (c.0, lt-ltb o n c.1)
+  by_owner None d o (inr c) = rw (c.0, le-ltb o n c.1)
+  by_owner (Some w) d o (inl c) = rw (c.0, lt-leb n o c.1) (sym (or-false (not (eqb w o))))
+  by_owner (Some w) d o (inr c) = rw (c.0, le-leb n o c.1)
 
   pub label_wrong_lem : (a : ℕ) → a < n → label_amiss (label_number (instr_at memory a)) (get_or own a 0) n ≡ label_wrong memory n edges a
   unfolding is_destination

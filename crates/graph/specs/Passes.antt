@@ -1,7 +1,6 @@
 -- What the checker's passes over the edges know and leave in their array. Contracts of private functions cite these; nothing that is
 -- promised outside does.
-use Rattle.std.specs.Prelude.{ℕ, ◌<◌, ◌≤◌, ◌≡◌, Bool, false, not, ◌&&◌, ◌||◌, List, length, get_or, eqb, ltb, leb}
-use Rattle.std.proofs.Math.Option.{Option, none, some}
+use Rattle.std.specs.Prelude.{ℕ, ◌<◌, ◌≤◌, ◌≡◌, Bool, false, not, ◌&&◌, ◌||◌, List, length, get_or, eqb, ltb, leb, Option, None, Some}
 use Rattle.lists.specs.Search.{any}
 use Rattle.graph.specs.Claim.{edge_count, jump_of, target_of, is_destination, id_of}
 
@@ -36,5 +35,5 @@ pub record Owned (edges : List ℕ) (n : ℕ) (own : List ℕ) : Type 0 where
 
 -- rule 12 by the owner of the address: a label that is not its ID, or a label too many or too few
 abbrev pub label_amiss : Option ℕ → ℕ → ℕ → Bool
-label_amiss none owner n = ltb owner n
-label_amiss (some w) owner n = leb n owner || not (eqb w owner)
+label_amiss None owner n = ltb owner n
+label_amiss (Some w) owner n = leb n owner || not (eqb w owner)

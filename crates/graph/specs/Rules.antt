@@ -1,7 +1,6 @@
 -- Which edges and addresses break the rules about the graph: a test for each place, true where it is faulty.
-use Rattle.std.specs.Prelude.{ℕ, Bool, true, false, not, ◌&&◌, ◌||◌, List, leb, eqb}
+use Rattle.std.specs.Prelude.{ℕ, Bool, true, false, not, ◌&&◌, ◌||◌, List, leb, eqb, Option, None, Some}
 use Rattle.std.specs.Bool.{beq}
-use Rattle.std.proofs.Math.Option.{Option, none, some}
 use Rattle.lists.specs.Search.{any}
 use Rattle.isa.specs.Instructions.{instr_at, is_jump, label_number}
 use Rattle.graph.specs.Claim.{edge_count, jump_of, target_of, is_edge, has_edge, is_destination, id_of}
@@ -31,12 +30,12 @@ abbrev pub overlaps : List ℕ → ℕ → ℕ → Bool
 overlaps edges n j = any (λ i. sets_meet edges n j i && sets_differ edges n j i) n
 
 abbrev pub is_label : Option ℕ → Bool
-is_label none = false
-is_label (some w) = true
+is_label None = false
+is_label (Some w) = true
 
 abbrev pub is_label_of : Option ℕ → ℕ → Bool
-is_label_of none id = false
-is_label_of (some w) id = eqb w id
+is_label_of None id = false
+is_label_of (Some w) id = eqb w id
 
 -- 12. "a destination holds label with its set's ID and no other address holds a label": an edge ends here whose set's ID
 -- the label here is not, or a label stands here and no edge ends

@@ -4,7 +4,7 @@ use Prim.Native.Nat.{ℕ, suc, ◌+◌, ◌-◌, ◌%◌, ◌<◌}
 use mathlib.Core.Path.{◌≡◌, sym, ap, subst, ◌∙◌}
 use mathlib.Core.Bool.{Bool, true}
 use mathlib.Core.Logic.{inl, inr}
-use mathlib.Core.Option.{some}
+use Rattle.std.specs.Prelude.{Some}
 use mathlib.Core.List.{List}
 use native.Mathlib.Omega.{arith}
 use lib.ListN.{length}
@@ -158,7 +158,7 @@ module _ (t : Technique) (bare : List ℕ) (n : ℕ) (edges values : List ℕ) (
 
   -- ---- branches
 
-  front : (p w : ℕ) → p < N → branch_target (instr_at memory p) ≡ some w → Front t bare n edges w
+  front : (p w : ℕ) → p < N → branch_target (instr_at memory p) ≡ Some w → Front t bare n edges w
   front p w h e =
       let b = target_of_lem (instr_at memory p) w e in
       subst (Front t bare n edges) b.1 (held (is_branch (instr_at memory p)) _ b.0 (role t bare n edges values ok p h).3)

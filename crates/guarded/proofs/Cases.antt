@@ -3,7 +3,7 @@
 use Prim.Native.Nat.{ℕ, ◌^◌, ◌<◌}
 use mathlib.Core.Path.{◌≡◌, refl, sym, ap, subst, ◌∙◌}
 use mathlib.Core.Bool.{Bool, true, false, cond, ◌&&◌, ◌||◌}
-use mathlib.Core.Option.{none, some}
+use Rattle.std.specs.Prelude.{None, Some}
 use native.Mathlib.Omega.{arith}
 use borrow.Author.Tests.{eqb-true}
 use Rattle.lists.proofs.Bools.{clash, and_right, true_false, refuted}
@@ -53,10 +53,10 @@ branch_other t i e = (
       true_false (and_right (guards_stores t) (is_store i) s) (branch_cases (λ j. is_store j ≡ false) (λ _ _ _. refl) (λ _. refl) i e)),
 )
 
-pub target_of_lem : (i : Instr) (w : ℕ) → branch_target i ≡ some w → (is_branch i ≡ true) × ((fields_of i).w ≡ w)
+pub target_of_lem : (i : Instr) (w : ℕ) → branch_target i ≡ Some w → (is_branch i ≡ true) × ((fields_of i).w ≡ w)
 target_of_lem i w e = go (is_branch i) e
   where
-    go : (b : Bool) → cond b (some (fields_of i).w) none ≡ some w → (b ≡ true) × ((fields_of i).w ≡ w)
+    go : (b : Bool) → cond b (Some (fields_of i).w) None ≡ Some w → (b ≡ true) × ((fields_of i).w ≡ w)
     go true q = (refl, cc)
     go false q = clash (cc)
 

@@ -3,7 +3,7 @@ use Prim.Native.Nat.{ℕ, zero, suc, ◌+◌, ◌-◌, ◌^◌, ◌<◌, ◌≤�
 use mathlib.Core.Path.{◌≡◌, refl, sym, ap, subst, ◌∙◌}
 use mathlib.Core.Bool.{Bool, true, false, cond, ◌&&◌}
 use mathlib.Core.Logic.{inr}
-use mathlib.Core.Option.{none, some}
+use Rattle.std.specs.Prelude.{None, Some}
 use mathlib.Core.List.{List, [], map}
 use native.Mathlib.Omega.{arith}
 use native.Mathlib.Decide.{dec_lt}
@@ -141,7 +141,7 @@ module _ (t : Technique) (bare : List ℕ) (n : ℕ) (edges values : List ℕ) (
 
       go : (b : Bool) → is_branch (old a) ≡ b → RoleAt (start a)
       go true q =
-          let within = ok.branches_within a w h (ap (λ (b : Bool). cond b (some w) none) q) in
+          let within = ok.branches_within a w h (ap (λ (b : Bool). cond b (Some w) None) q) in
           let m = moves (get_or bare a 0) (new w) q (new_low w (omega arith)) in
           let there = first_stands memory (start a) (encode_of (with_target (old a) (new w))) [] (other_stands t bare n edges values a h true e f q) in
           same_kind_lem (with_target (old a) (new w)) (ap decode_of there ∙ m.back) m.kind (λ _. inr (w, within, m.target))

@@ -6,7 +6,7 @@ use native.Mathlib.Omega.{arith}
 use lib.ListN.{length}
 use borrow.Author.Tests.{leb-false, ltb-false}
 use Rattle.lists.proofs.Bools.{and_right, or_left, true_false, clash}
-use Rattle.answers.specs.declared.Verdict.{Verdict}
+use Rattle.std.specs.Prelude.{Ok}
 use Rattle.answers.specs.Shape.{memory_shaped}
 use Rattle.isa.specs.declared.Kind.{Kind}
 use Rattle.isa.specs.declared.Technique.{Technique}
@@ -18,7 +18,7 @@ use Rattle.guarded.specs.Rewrite.{new_length}
 use Rattle.guarded.specs.Rules.{outside, word_rules, length_rule, bare_verdict_of}
 use Rattle.guarded.specs.Theorems.{Rewritable}
 
-pub may_rewrite : (memory : List ℕ) (n : ℕ) (edges : List ℕ) (D : ℕ) → bare_verdict_of Technique.Plain memory n edges ≡ Verdict.Accepted
+pub may_rewrite : (memory : List ℕ) (n : ℕ) (edges : List ℕ) (D : ℕ) → bare_verdict_of Technique.Plain memory n edges ≡ Ok tt
     → D ≤ 2048 → Rewritable Technique.Plain memory n edges D
 unfolding bare_verdict_of
 may_rewrite memory n edges D e d =

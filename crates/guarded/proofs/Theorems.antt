@@ -2,7 +2,7 @@
 use Prim.Native.Nat.{ℕ, suc, ◌+◌, ◌<◌}
 use mathlib.Core.Path.{◌≡◌, ap, subst}
 use mathlib.Core.Bool.{true, false}
-use mathlib.Core.Option.{some}
+use Rattle.std.specs.Prelude.{Some}
 use mathlib.Core.List.{List, [], ◌∷◌, map}
 use native.Mathlib.Omega.{arith}
 use lib.ListN.{length}
@@ -73,7 +73,7 @@ module _ (t : Technique) (bare : List ℕ) (n : ℕ) (edges values : List ℕ) w
         subst (λ (i : Instr). Stand memory (start a) (store_words N (length memory) i)) e
         (store_stands t bare n edges values a h (both_true g (ap is_store e)))
 
-    branch : (w : ℕ) → branch_target (instr_at bare a) ≡ some w
+    branch : (w : ℕ) → branch_target (instr_at bare a) ≡ Some w
         → Stand memory (start a) (encode_of (with_target (instr_at bare a) (new w)) ∷ [])
     branch w e =
         let b = target_of_lem (instr_at bare a) w e in

@@ -1,6 +1,5 @@
 -- The rewriter's definitions on two programs, by computation.
-use Rattle.std.specs.Prelude.{ℕ, ◌≡◌, List, [], ◌∷◌, map}
-use Rattle.answers.specs.declared.Verdict.{Verdict}
+use Rattle.std.specs.Prelude.{ℕ, ◌≡◌, List, [], ◌∷◌, map, Ok}
 use Rattle.isa.specs.declared.Instr.{Instr}
 use Rattle.isa.specs.declared.Technique.{Technique}
 use Rattle.isa.specs.Words.{encode_of}
@@ -102,5 +101,5 @@ pub record RewritesShown : Type 0 where
   pub plain_rewritten : rewrite_of Technique.Plain bare_store 4 store_edges 1 ≡ plain
   pub guarded_rewritten : rewrite_of Technique.MemoryGuards bare_store 4 store_edges 1 ≡ guarded
   -- and both may be rewritten, so the theorems speak of them
-  pub post_passes : bare_verdict_of Technique.Plain bare 3 edges ≡ Verdict.Accepted
-  pub store_passes : bare_verdict_of Technique.Plain bare_store 4 store_edges ≡ Verdict.Accepted
+  pub post_passes : bare_verdict_of Technique.Plain bare 3 edges ≡ Ok tt
+  pub store_passes : bare_verdict_of Technique.Plain bare_store 4 store_edges ≡ Ok tt

@@ -1,10 +1,9 @@
 -- Which bare code the rewriter turns away (document 02, K7), in this order: 6, 7, 8, 18, 9 and 10, "as the checkers answer them"; 20, 21
 -- and 22. 5 comes last, and is said where the answer is.
-use Rattle.std.specs.Prelude.{ℕ, Bool, false, ◌&&◌, ◌||◌, List, [], ◌∷◌, ltb, leb}
-use Rattle.std.proofs.Math.Option.{Option, none, some}
+use Rattle.std.specs.Prelude.{ℕ, Bool, false, ◌&&◌, ◌||◌, List, [], ◌∷◌, ltb, leb, Option, None, Some}
 use Rattle.answers.specs.declared.Refusal.{Refusal}
 use Rattle.answers.specs.declared.Place.{Place}
-use Rattle.answers.specs.declared.Verdict.{Verdict}
+use Rattle.answers.specs.Faults.{Verdict}
 use Rattle.isa.specs.declared.Kind.{Kind}
 use Rattle.isa.specs.declared.Instr.{Instr}
 use Rattle.isa.specs.declared.Technique.{Technique}
@@ -30,8 +29,8 @@ abbrev pub label_or_reserved : List ℕ → ℕ → Bool
 label_or_reserved memory a = is_unfit (instr_at memory a)
 
 abbrev pub outside : ℕ → Option ℕ → Bool
-outside n none = false
-outside n (some w) = leb n w
+outside n None = false
+outside n (Some w) = leb n w
 
 -- 21. "a branch out of the bare code"
 abbrev pub branches_out : List ℕ → ℕ → ℕ → Bool
@@ -50,7 +49,7 @@ word_rules memory n rest =
 abbrev pub length_rule : Technique → List ℕ → ℕ → List ℕ → List Rule
 length_rule t memory n edges = rule_once Refusal.ResultTooLong (too_long t memory n edges) Place.Nowhere ∷ []
 
--- memory is n words of bare code and then the data; Accepted where it may be rewritten
+-- memory is n words of bare code and then the data; `Ok tt` where it may be rewritten
 unfoldable pub bare_verdict_of : Technique → List ℕ → ℕ → List ℕ → Verdict
 bare_verdict_of t memory n edges = first_broken (claim_rules memory n edges (word_rules memory n (length_rule t memory n edges)))
 

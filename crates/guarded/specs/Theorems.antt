@@ -1,8 +1,6 @@
 -- What is proved of guards put in for the installer (document 02, K7). `proofs/Theorems.antt` has the proofs.
-use Rattle.std.specs.Prelude.{ℕ, suc, ◌+◌, ◌-◌, ◌*◌, ◌≤◌, ◌<◌, ◌≡◌, ◌⊎◌, true, false, ◌&&◌, List, [], ◌∷◌, ◌++◌, map, length, get_or}
-use Rattle.std.proofs.Math.Option.{some}
+use Rattle.std.specs.Prelude.{ℕ, suc, ◌+◌, ◌-◌, ◌*◌, ◌≤◌, ◌<◌, ◌≡◌, ◌⊎◌, true, false, ◌&&◌, List, [], ◌∷◌, ◌++◌, map, length, get_or, Some, Ok}
 use Rattle.lists.specs.Search.{bit, count}
-use Rattle.answers.specs.declared.Verdict.{Verdict}
 use Rattle.answers.specs.Shape.{edges_shaped}
 use Rattle.isa.specs.declared.Instr.{Instr}
 use Rattle.isa.specs.declared.Technique.{Technique}
@@ -25,7 +23,7 @@ pub record Rewritable (t : Technique) (bare : List ℕ) (n : ℕ) (edges : List 
   pub edges_rise : Rising edges
   pub no_label : (a w : ℕ) → a < n → instr_at bare a ≡ Instr.Label w → ⊥
   pub data_for_stores : (a : ℕ) → a < n → (guards_stores t && is_store (instr_at bare a)) ≡ true → 1 ≤ D
-  pub branches_within : (a w : ℕ) → a < n → branch_target (instr_at bare a) ≡ some w → w < n
+  pub branches_within : (a w : ℕ) → a < n → branch_target (instr_at bare a) ≡ Some w → w < n
   pub length_limit : new_length t bare n edges ≤ 2048
 
 -- these words are in memory from `at` on
@@ -55,7 +53,7 @@ module _ (t : Technique) (bare : List ℕ) (n : ℕ) (edges values : List ℕ) w
     pub store : (rd rs w : ℕ) → guards_stores t ≡ true → instr_at bare a ≡ Instr.St rd rs w
         → Stand new_memory (body_start a) (map encode_of (filled (store_guard (new_length t bare n edges) (length new_memory)) rd w rs))
     -- "Branch targets .. follow the map"
-    pub branch : (w : ℕ) → branch_target (instr_at bare a) ≡ some w
+    pub branch : (w : ℕ) → branch_target (instr_at bare a) ≡ Some w
         → Stand new_memory (body_start a) (encode_of (with_target (instr_at bare a) (map_of t bare edges w)) ∷ [])
     -- "Other words keep their value"
     pub other : is_jump (instr_at bare a) ≡ false → (guards_stores t && is_store (instr_at bare a)) ≡ false → is_branch (instr_at bare a) ≡ false
@@ -66,7 +64,7 @@ module _ (t : Technique) (bare : List ℕ) (n : ℕ) (edges values : List ℕ) w
   -- what comes out of bare code that is not turned away
   pub record Rewriting : Type 0 where
     -- 1. "What comes out is always accepted."
-    pub accepted : verdict_of t new_memory (new_length t bare n edges) (new_edges t bare edges) ≡ Verdict.Accepted
+    pub accepted : verdict_of t new_memory (new_length t bare n edges) (new_edges t bare edges) ≡ Ok tt
     pub code_length : length (new_code t bare n edges (length values)) ≡ new_length t bare n edges
     -- 4. the map has an entry for each bare address, and rises; so do the places of the words: they keep their sequence
     pub map_length : length (new_map t bare n edges) ≡ n
@@ -108,7 +106,7 @@ destinations_in edges n = count (is_destination edges) n
 
 pub record GuardsPutIn : Type 0 where
   -- what is not turned away, plain, can be rewritten, whatever data words come to stand after the new code
-  pub passed : (memory : List ℕ) (n : ℕ) (edges : List ℕ) (D : ℕ) → bare_verdict_of Technique.Plain memory n edges ≡ Verdict.Accepted → D ≤ 2048
+  pub passed : (memory : List ℕ) (n : ℕ) (edges : List ℕ) (D : ℕ) → bare_verdict_of Technique.Plain memory n edges ≡ Ok tt → D ≤ 2048
       → Rewritable Technique.Plain memory n edges D
   -- and so all of this holds of it, "argued one time over the list of guards"
   pub rewriting : (t : Technique) (bare : List ℕ) (n : ℕ) (edges values : List ℕ) → Rewritable t bare n edges (length values)

@@ -5,7 +5,6 @@ use mathlib.Core.Bool.{Bool, true, false, cond, ◌&&◌}
 use mathlib.Core.List.{List, [], ◌∷◌}
 use native.Mathlib.Omega.{arith}
 use native.Mathlib.Numerals.{add-one}
-use lib.Dec.{leb}
 use lib.ListN.{length, get_or}
 use Rattle.lists.proofs.Bools.{clash}
 use Rattle.isa.specs.declared.Instr.{Instr}
@@ -13,36 +12,38 @@ use Rattle.isa.specs.declared.Technique.{Technique}
 use Rattle.isa.specs.Words.{exact, fields_of, encode_of}
 use Rattle.isa.specs.Instructions.{instr_at}
 use Rattle.isa.proofs.Words.{exact_instruction}
+use Rattle.std.specs.Prelude.{Option, None, Some}
 use Rattle.guards.specs.declared.Slot.{Slot}
+use Rattle.guards.specs.declared.Free.{Free}
 use Rattle.guards.specs.Sequences.{just, any_register_in, label_test, range_test, jump_guard, store_guard, fits, stands_at}
-use Rattle.guards.specs.Patterns.{slot_of, word_at, slots_from, Form, Formed, words_of, free_of, frees_of, jump_length, id_place, jump_words}
+use Rattle.guards.specs.Patterns.{any_register_of, any_immediate_of, slot_of, word_at, slots_from, Form, Formed, words_of, free_of, frees_of, jump_length, id_place, jump_words}
 
-pub slots_length : (word : ℕ → ℕ) (free : List ℕ) (k m : ℕ) → length (slots_from word free k m) ≡ m
+pub slots_length : (word : ℕ → ℕ) (free : List Free) (k m : ℕ) → length (slots_from word free k m) ≡ m
 unfolding slots_from
 slots_length word free k zero = refl
 slots_length word free k (suc m) = ap suc (slots_length word free (suc k) m)
 
 -- an array's slots
-abbrev slots_of : List ℕ → List ℕ → ℕ → ℕ → List Slot
+abbrev slots_of : List ℕ → List Free → ℕ → ℕ → List Slot
 slots_of words free k m = slots_from (λ i. get_or words i 0) free k m
 
-slots_tail : (x y : ℕ) (words free : List ℕ) (k m : ℕ) → slots_of (x ∷ words) (y ∷ free) (suc k) m ≡ slots_of words free k m
+slots_tail : (x : ℕ) (y : Free) (words : List ℕ) (free : List Free) (k m : ℕ) → slots_of (x ∷ words) (y ∷ free) (suc k) m ≡ slots_of words free k m
 unfolding slots_from
 slots_tail x y words free k zero = refl
 slots_tail x y words free k (suc m) =
-    ap (λ (rest : List Slot). slot_of (get_or words k 0) (get_or free k 0) ∷ rest) (slots_tail x y words free (suc k) m)
+    ap (λ (rest : List Slot). slot_of (get_or words k 0) (get_or free k Free.Nothing) ∷ rest) (slots_tail x y words free (suc k) m)
 
 slot_back : (s : Slot) → Form s → slot_of (encode_of s.instr) (free_of s) ≡ s
 slot_back s h =
-    ap (λ (i : Instr). record { instr = i; any_register = leb 1 (free_of s); any_immediate = leb 2 (free_of s) })
+    ap (λ (i : Instr). record { instr = i; any_register = any_register_of (free_of s); any_immediate = any_immediate_of (free_of s) })
     (exact_instruction s.instr h.legal h.short)
     ∙ go s.any_register s.any_immediate h.register_too
   where
     go : (b w : Bool) → (w ≡ true → b ≡ true)
         → ◌≡◌ {A = Slot} (record {
           instr = s.instr;
-          any_register = leb 1 (cond w 2 (cond b 1 0));
-          any_immediate = leb 2 (cond w 2 (cond b 1 0));
+          any_register = any_register_of (cond w Free.RegisterAndImmediate (cond b Free.Register Free.Nothing));
+          any_immediate = any_immediate_of (cond w Free.RegisterAndImmediate (cond b Free.Register Free.Nothing));
         }) (record { instr = s.instr; any_register = b; any_immediate = w })
     go true true t = refl
     go true false t = refl
@@ -62,7 +63,7 @@ slots_back (s ∷ slots) (suc m) h l =
     ∙ slots_back slots m h.1 (omega arith))
 
 -- one slot of a match
-module _ (memory : List ℕ) (word : ℕ → ℕ) (free : List ℕ) (b len : ℕ) where
+module _ (memory : List ℕ) (word : ℕ → ℕ) (free : List Free) (b len : ℕ) where
   -- what is left of the match from place k on
   abbrev pub Rest : ℕ → Bool
   Rest k = stands_at memory (b + k) (slots_from word free k (len - k))
@@ -78,7 +79,7 @@ module _ (memory : List ℕ) (word : ℕ → ℕ) (free : List ℕ) (b len : ℕ
   rest_none k e = let z : len - k ≡ 0 = omega arith in rw z
 
   pub rest_step : (k : ℕ) → k < len
-      → Rest k ≡ (fits (slot_of (word k) (get_or free k 0)) (instr_at memory (b + k)) && Rest (k + 1))
+      → Rest k ≡ (fits (slot_of (word k) (get_or free k Free.Nothing)) (instr_at memory (b + k)) && Rest (k + 1))
   unfolding slots_from stands_at
   rest_step k l =
       let z : len - k ≡ suc (len - (k + 1)) = omega arith in
@@ -86,7 +87,7 @@ module _ (memory : List ℕ) (word : ℕ → ℕ) (free : List ℕ) (b len : ℕ
       rw (z, y, add-one k)
 
   pub formed_step : (k : ℕ) → k < len → Formed (slots_from word free k (len - k))
-      → Form (slot_of (word k) (get_or free k 0)) × Formed (slots_from word free (k + 1) (len - (k + 1)))
+      → Form (slot_of (word k) (get_or free k Free.Nothing)) × Formed (slots_from word free (k + 1) (len - (k + 1)))
   unfolding slots_from
   formed_step k l h =
       let z : len - k ≡ suc (len - (k + 1)) = omega arith in
@@ -165,11 +166,11 @@ module _ (n : ℕ) (small : n ≤ 2048) where
       (addi_form true, range_test_lem (len - 1) n (any_register_in (Instr.St 0 0 0) ∷ []) (omega arith) (omega arith) store_end)
 
 -- arrays that hold a sequence, read back
-pub record Kept (word : ℕ → ℕ) (free : List ℕ) (len : ℕ) (slots : List Slot) : Type 0 where
+pub record Kept (word : ℕ → ℕ) (free : List Free) (len : ℕ) (slots : List Slot) : Type 0 where
   pub same : slots_from word free 0 len ≡ slots
   pub formed : Formed (slots_from word free 0 len)
 
-kept : (word : ℕ → ℕ) (free : List ℕ) (slots : List Slot) → Formed slots → length slots ≤ 10
+kept : (word : ℕ → ℕ) (free : List Free) (slots : List Slot) → Formed slots → length slots ≤ 10
     → slots_from word free 0 (length slots) ≡ slots_of (words_of 10 slots) (frees_of 10 slots) 0 (length slots)
     → Kept word free (length slots) slots
 kept word free slots h l e =
@@ -177,26 +178,22 @@ kept word free slots h l e =
     record { same = back; formed = subst Formed (sym back) h }
 
 -- the word with the ID is given apart
-pub jump_kept : (t : Technique) (n id : ℕ) (words : List ℕ) (place apart : ℕ) (free : List ℕ) (len : ℕ) → n ≤ 2048 → id < 2 ^ 32
-    → words ≡ jump_words t n → place ≡ id_place t → apart ≡ encode_of (Instr.Movi 2 id)
+pub jump_kept : (t : Technique) (n id : ℕ) (words : List ℕ) (apart : Option (ℕ × ℕ)) (free : List Free) (len : ℕ) → n ≤ 2048 → id < 2 ^ 32
+    → words ≡ jump_words t n → apart ≡ Some (id_place t, encode_of (Instr.Movi 2 id))
     → free ≡ frees_of 10 (jump_guard Technique.Plain 0 0) → len ≡ jump_length t
-    → Kept (λ k. word_at words place apart k) free len (jump_guard t n id)
+    → Kept (λ k. word_at words apart k) free len (jump_guard t n id)
 unfolding slots_from
-jump_kept Technique.Plain n id words place apart free len s l ew ep ea ef el =
-    rw (ew, ep, ea, ef, el) (kept _ _ (jump_guard Technique.Plain n id) (jump_formed n s Technique.Plain id l) (omega arith) refl)
-jump_kept Technique.MemoryGuards n id words place apart free len s l ew ep ea ef el =
-    rw (ew, ep, ea, ef, el) (kept _ _ (jump_guard Technique.MemoryGuards n id) (jump_formed n s Technique.MemoryGuards id l) (omega arith) refl)
+jump_kept Technique.Plain n id words apart free len s l ew ea ef el =
+    rw (ew, ea, ef, el) (kept _ _ (jump_guard Technique.Plain n id) (jump_formed n s Technique.Plain id l) (omega arith) refl)
+jump_kept Technique.MemoryGuards n id words apart free len s l ew ea ef el =
+    rw (ew, ea, ef, el) (kept _ _ (jump_guard Technique.MemoryGuards n id) (jump_formed n s Technique.MemoryGuards id l) (omega arith) refl)
 
 -- no word is
-pub store_kept : (n len : ℕ) (words free : List ℕ) → n ≤ 2048 → len ≤ 4096 → words ≡ words_of 10 (store_guard n len)
-    → free ≡ frees_of 10 (store_guard 0 0) → Kept (λ k. word_at words 10 0 k) free 6 (store_guard n len)
+pub store_kept : (n len : ℕ) (words : List ℕ) (free : List Free) → n ≤ 2048 → len ≤ 4096 → words ≡ words_of 10 (store_guard n len)
+    → free ≡ frees_of 10 (store_guard 0 0) → Kept (λ k. word_at words None k) free 6 (store_guard n len)
 unfolding slots_from
 store_kept n len words free s l ew ef = rw (ew, ef) (kept _ _ (store_guard n len) (store_formed n s len l) (omega arith) refl)
 
 pub jump_length_low : (t : Technique) → jump_length t ≤ 10
 jump_length_low Technique.Plain = omega arith
 jump_length_low Technique.MemoryGuards = omega arith
-
--- the last address of a code whose last address is h
-pub halt_back : (h : ℕ) → h + 1 - 1 ≡ h
-halt_back h = omega arith

@@ -3,7 +3,7 @@ use Prim.Native.Nat.{ℕ, suc, ◌+◌, ◌-◌, ◌<◌, ◌≤◌}
 use mathlib.Core.Path.{◌≡◌, refl, sym, ap, subst}
 use mathlib.Core.Bool.{Bool, true, false, ◌&&◌, and-false}
 use mathlib.Core.List.{List, [], ◌∷◌}
-use mathlib.Core.Option.{Option, none, some}
+use Rattle.std.specs.Prelude.{Option, None, Some}
 use native.Mathlib.Omega.{arith}
 use borrow.Author.Tests.{leb-true, ltb-true, ltb-false, le-leb, lt-leb, le-ltb, lt-ltb, not-false}
 use lib.Dec.{ltb, leb}
@@ -95,8 +95,8 @@ pub branch_wrong_lem : (t : Technique) (memory : List ℕ) (n : ℕ) (edges : Li
 branch_wrong_lem t memory n edges i h = go (branch_target i)
   where
     go : (o : Option ℕ) → target_bad_if_any t memory n o ≡ target_wrong_if_any t memory n edges o
-    go none = refl
-    go (some w) = rw (guard_near_lem t memory n edges w h)
+    go None = refl
+    go (Some w) = rw (guard_near_lem t memory n edges w h)
 
 -- a search for the last word of a sequence, from w on
 module _ (kind : Instr → Bool) (memory : List ℕ) (len w : ℕ) where

@@ -1,10 +1,10 @@
 -- A word fits a slot exactly where, its free fields taken out, it is the slot's word.
-use Prim.Native.Nat.{ℕ, ◌-◌, ◌*◌, ◌/◌, ◌%◌, ◌^◌, ◌<◌, ◌≤◌}
+use Prim.Native.Nat.{ℕ, ◌-◌, ◌*◌, ◌/◌, ◌%◌, ◌^◌, ◌<◌}
 use mathlib.Core.Path.{◌≡◌, refl, sym, ap, subst, ◌∙◌}
 use mathlib.Core.Bool.{Bool, true, false, cond, ◌&&◌}
 use native.Mathlib.Omega.{arith}
-use borrow.Author.Tests.{eq-eqb, eqb-true, ltb-true, lt-ltb, le-ltb, le-leb}
-use lib.Dec.{eqb, ltb, leb}
+use borrow.Author.Tests.{eq-eqb, eqb-true, ltb-true, lt-ltb}
+use lib.Dec.{eqb, ltb}
 use Rattle.lists.proofs.Bools.{and_left, and_right, both_true, same_bool, true_false}
 use Rattle.isa.specs.declared.Kind.{Kind}
 use Rattle.isa.specs.declared.Instr.{Instr}
@@ -13,6 +13,7 @@ use Rattle.isa.specs.Words.{opcode_of, named_by, register_ok, immediate_ok, know
 use Rattle.isa.proofs.Words.{opcode_kind_lem, pack_split, exact_back, split_pack, decode_exact, encode_exact, word_back, fit}
 use Rattle.isa.proofs.ByKind.{legal_fields}
 use Rattle.guards.specs.declared.Slot.{Slot}
+use Rattle.guards.specs.declared.Free.{Free}
 use Rattle.guards.specs.Sequences.{fields_agree, fits}
 use Rattle.guards.specs.Patterns.{Form, slot_of}
 use Rattle.guards.proofs.Fits.{filled_fields, Agrees, agrees}
@@ -145,23 +146,19 @@ module _ (i : Instr) where
 packed : (y : ℕ) → exact (fields_of (decode_of y)) ≡ true → y ≡ pack (fields_of (decode_of y))
 packed y e = sym (word_back y (λ z. true_false e (ap (λ (i : Instr). exact (fields_of i)) z))) ∙ encode_exact (decode_of y) e
 
-module _ (x y free : ℕ) (h : Form (slot_of y free)) where
+module _ (x y : ℕ) where
   -- nothing is free
-  pub fits_whole : free ≡ 0 → eqb x y ≡ fits (slot_of y free) (decode_of x)
-  fits_whole e =
+  pub fits_whole : Form (slot_of y Free.Nothing) → eqb x y ≡ fits (slot_of y Free.Nothing) (decode_of x)
+  fits_whole h =
       let z : x - 0 * 2 ^ 40 - 0 ≡ x = omega arith in
-      ap (λ (n : ℕ). eqb n y) (sym z)
-      ∙ taken_fits (decode_of y) (leb 1 free) (leb 2 free) x y 0 0 h (packed y h.legal) (rw e) (rw e)
+      ap (λ (n : ℕ). eqb n y) (sym z) ∙ taken_fits (decode_of y) false false x y 0 0 h (packed y h.legal) refl refl
 
-  -- the register that is taken out is none
-  pub fits_not : 1 ≤ free → 32 ≤ x / 2 ^ 40 % 256 → false ≡ fits (slot_of y free) (decode_of x)
-  fits_not l b =
-      sym (rw (le-ltb (x / 2 ^ 40 % 256) 32 b))
-      ∙ taken_fits (decode_of y) (leb 1 free) (leb 2 free) x y (x / 2 ^ 40 % 256) (cond (leb 2 free) (x % 2 ^ 32) 0) h (packed y h.legal)
-      (rw (le-leb 1 free l)) refl
+  -- the register, or the immediate too, is taken out
+  pub fits_register : Form (slot_of y Free.Register)
+      → (ltb (x / 2 ^ 40 % 256) 32 && eqb (x - x / 2 ^ 40 % 256 * 2 ^ 40 - 0) y) ≡ fits (slot_of y Free.Register) (decode_of x)
+  fits_register h = taken_fits (decode_of y) true false x y (x / 2 ^ 40 % 256) 0 h (packed y h.legal) refl refl
 
-  pub fits_rest : (w : ℕ) → 1 ≤ free → x / 2 ^ 40 % 256 < 32 → w ≡ cond (leb 2 free) (x % 2 ^ 32) 0
-      → eqb (x - x / 2 ^ 40 % 256 * 2 ^ 40 - w) y ≡ fits (slot_of y free) (decode_of x)
-  fits_rest w l b e =
-      sym (rw (lt-ltb (x / 2 ^ 40 % 256) 32 b))
-      ∙ taken_fits (decode_of y) (leb 1 free) (leb 2 free) x y (x / 2 ^ 40 % 256) w h (packed y h.legal) (rw (le-leb 1 free l)) e
+  pub fits_both : Form (slot_of y Free.RegisterAndImmediate)
+      → (ltb (x / 2 ^ 40 % 256) 32 && eqb (x - x / 2 ^ 40 % 256 * 2 ^ 40 - x % 2 ^ 32) y)
+      ≡ fits (slot_of y Free.RegisterAndImmediate) (decode_of x)
+  fits_both h = taken_fits (decode_of y) true true x y (x / 2 ^ 40 % 256) (x % 2 ^ 32) h (packed y h.legal) refl refl

@@ -1,28 +1,38 @@
 -- Guard sequences as code has them: an array of words, and for each how much of it is free. `guards::jump_words` and the contracts of
 -- private functions cite these; nothing that is promised to users does.
-use Rattle.std.specs.Prelude.{ℕ, zero, suc, ◌+◌, ◌^◌, ◌<◌, ◌≡◌, Bool, true, false, cond, ◌&&◌, ◌||◌, List, [], ◌∷◌, get_or, set, ltb, leb, eqb}
-use Rattle.std.proofs.Math.Option.{Option, none, some}
+use Rattle.std.specs.Prelude.{ℕ, zero, suc, ◌+◌, ◌^◌, ◌<◌, ◌≡◌, Bool, true, false, cond, ◌&&◌, ◌||◌, List, [], ◌∷◌, get_or, set, ltb, leb, eqb, Option, None, Some}
 use Rattle.lists.specs.Search.{any}
 use Rattle.isa.specs.declared.Instr.{Instr}
 use Rattle.isa.specs.declared.Technique.{Technique}
 use Rattle.isa.specs.Words.{named_by, exact, fields_of, decode_of, encode_of}
 use Rattle.isa.specs.Instructions.{instr_at, is_jump, is_store, branch_target}
 use Rattle.guards.specs.declared.Slot.{Slot}
+use Rattle.guards.specs.declared.Free.{Free}
 use Rattle.guards.specs.Sequences.{jump_guard}
 use Rattle.guards.specs.Rules.{store_unguarded, jump_unguarded}
 
--- 0: the word itself; 1: any register in field b; 2: any register there and any w
-abbrev pub slot_of : ℕ → ℕ → Slot
-slot_of word free = record { instr = decode_of word; any_register = leb 1 free; any_immediate = leb 2 free }
+abbrev pub any_register_of : Free → Bool
+any_register_of Free.Nothing = false
+any_register_of Free.Register = true
+any_register_of Free.RegisterAndImmediate = true
 
--- the word at place k, where one is given apart from the array
-abbrev pub word_at : List ℕ → ℕ → ℕ → ℕ → ℕ
-word_at words place apart k = cond (eqb k place) apart (get_or words k 0)
+abbrev pub any_immediate_of : Free → Bool
+any_immediate_of Free.Nothing = false
+any_immediate_of Free.Register = false
+any_immediate_of Free.RegisterAndImmediate = true
+
+abbrev pub slot_of : ℕ → Free → Slot
+slot_of word free = record { instr = decode_of word; any_register = any_register_of free; any_immediate = any_immediate_of free }
+
+-- the word at place k, where one is given apart from the array, with its place
+abbrev pub word_at : List ℕ → Option (ℕ × ℕ) → ℕ → ℕ
+word_at words None k = get_or words k 0
+word_at words (Some apart) k = cond (eqb k apart.0) apart.1 (get_or words k 0)
 
 -- the slots from place k on, m of them
-unfoldable pub slots_from : (ℕ → ℕ) → List ℕ → ℕ → ℕ → List Slot
+unfoldable pub slots_from : (ℕ → ℕ) → List Free → ℕ → ℕ → List Slot
 slots_from word free k zero = []
-slots_from word free k (suc m) = slot_of (word k) (get_or free k 0) ∷ slots_from word free (suc k) m
+slots_from word free k (suc m) = slot_of (word k) (get_or free k Free.Nothing) ∷ slots_from word free (suc k) m
 
 -- a legal instruction, whose free fields are named and 0
 pub record Form (s : Slot) : Type 0 where
@@ -44,12 +54,12 @@ words_of zero slots = []
 words_of (suc m) [] = 0 ∷ words_of m []
 words_of (suc m) (s ∷ slots) = encode_of s.instr ∷ words_of m slots
 
-abbrev pub free_of : Slot → ℕ
-free_of s = cond s.any_immediate 2 (cond s.any_register 1 0)
+abbrev pub free_of : Slot → Free
+free_of s = cond s.any_immediate Free.RegisterAndImmediate (cond s.any_register Free.Register Free.Nothing)
 
-abbrev pub frees_of : ℕ → List Slot → List ℕ
+abbrev pub frees_of : ℕ → List Slot → List Free
 frees_of zero slots = []
-frees_of (suc m) [] = 0 ∷ frees_of m []
+frees_of (suc m) [] = Free.Nothing ∷ frees_of m []
 frees_of (suc m) (s ∷ slots) = free_of s ∷ frees_of m slots
 
 -- how many words a jmp's sequence has
@@ -70,11 +80,6 @@ jump_words t n = set (words_of 10 (jump_guard t n 0)) (id_place t) 0
 abbrev pub ending_near : (Instr → Bool) → List ℕ → ℕ → ℕ → ℕ → Bool
 ending_near kind memory n len w = any (λ a. kind (instr_at memory a) && (leb w a && ltb (a + 1) (w + len))) n
 
--- what a sequence ends with
-abbrev pub ending_kind : Bool → Instr → Bool
-ending_kind true i = is_store i
-ending_kind false i = is_jump i
-
 -- rule 15 by the jmp and st words that stand near
 abbrev pub guard_near : Technique → List ℕ → ℕ → ℕ → Bool
 guard_near Technique.Plain memory n w = ending_near is_jump memory n 6 w
@@ -84,8 +89,8 @@ abbrev pub target_bad : Technique → List ℕ → ℕ → ℕ → Bool
 target_bad t memory n w = leb n w || guard_near t memory n w
 
 abbrev pub target_bad_if_any : Technique → List ℕ → ℕ → Option ℕ → Bool
-target_bad_if_any t memory n none = false
-target_bad_if_any t memory n (some w) = target_bad t memory n w
+target_bad_if_any t memory n None = false
+target_bad_if_any t memory n (Some w) = target_bad t memory n w
 
 abbrev pub branch_bad : Technique → List ℕ → ℕ → Instr → Bool
 branch_bad t memory n i = target_bad_if_any t memory n (branch_target i)

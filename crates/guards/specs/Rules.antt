@@ -1,6 +1,5 @@
 -- Which addresses break the rules about guards and branches: a test for each address, true where it is faulty.
-use Rattle.std.specs.Prelude.{ℕ, ◌+◌, Bool, false, not, ◌&&◌, ◌||◌, List, length, ltb, leb}
-use Rattle.std.proofs.Math.Option.{Option, none, some}
+use Rattle.std.specs.Prelude.{ℕ, ◌+◌, Bool, false, not, ◌&&◌, ◌||◌, List, length, ltb, leb, Option, None, Some}
 use Rattle.lists.specs.Search.{any}
 use Rattle.isa.specs.declared.Technique.{Technique}
 use Rattle.isa.specs.Instructions.{instr_at, is_jump, is_store, branch_target}
@@ -42,8 +41,8 @@ abbrev pub target_wrong : Technique → List ℕ → ℕ → List ℕ → ℕ �
 target_wrong t memory n edges w = leb n w || inside_guard t memory n edges w
 
 abbrev pub target_wrong_if_any : Technique → List ℕ → ℕ → List ℕ → Option ℕ → Bool
-target_wrong_if_any t memory n edges none = false
-target_wrong_if_any t memory n edges (some w) = target_wrong t memory n edges w
+target_wrong_if_any t memory n edges None = false
+target_wrong_if_any t memory n edges (Some w) = target_wrong t memory n edges w
 
 -- 15. "This bgt or jd breaks the target condition."
 abbrev pub branch_wrong : Technique → List ℕ → ℕ → List ℕ → ℕ → Bool

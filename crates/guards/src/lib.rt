@@ -18,6 +18,14 @@ pub struct Slot {
     pub any_immediate: bool,
 }
 
+// How much of a word of a guard sequence is free: nothing, its register field b, or that and its immediate w.
+#[derive(Clone, Copy, Debug, PartialEq, Eq)]
+pub enum Free {
+    Nothing,
+    Register,
+    RegisterAndImmediate,
+}
+
 // The words that lead to a jmp, itself the last, in a code whose last address is halt; but for the movi that holds the ID: 0 stands
 // there, and it is given apart.
 pub fn jump_words(technique: Technique, halt: u32) -> [u64; 10]

@@ -11,30 +11,26 @@ use Rattle.lists.specs.Places.{shorter}
 use Rattle.lists.proofs.Bools.{or_right}
 use Rattle.answers.specs.declared.Refusal.{Refusal}
 use Rattle.answers.specs.declared.Place.{Place}
-use Rattle.answers.specs.declared.Verdict.{Verdict}
+use Rattle.answers.specs.declared.Fault.{Fault}
+use Rattle.answers.specs.Faults.{fault, Verdict}
+use Rattle.std.specs.Prelude.{Ok, Err}
 use Rattle.isa.specs.declared.Technique.{Technique}
 use Rattle.guarded.specs.Rewrite.{Guarded}
 use Rattle.guarded.specs.Rules.{bare_verdict_of}
 use Rattle.guarded.proofs.Places.{code_length}
-use Rattle.rewrite.specs.declared.Rewritten.{Rewritten}
-use Rattle.rewrite.specs.Answers.{places_short, answer_of, after_rewrite, Put, plain_of}
+use Rattle.rewrite.specs.Answers.{Answer, places_short, answer_of, after_rewrite, Put, plain_of}
 use Rattle.capi.specs.Checks.{place_after}
 use Rattle.installer.specs.Calls.{rewritten_number, rewritten_place, counts_after, RewriteCall}
 use Rattle.installer.specs.Inside.{RewrittenPut}
 
-pub room_fits : (b : Bool) (len : ℕ) {room : ℕ} → room ≡ cond b 0 len → room ≤ len
-room_fits true len e = omega arith
-room_fits false len e = omega arith
-
 -- a refusal, as an answer and as what it leaves
-record Refuses (answer : Rewritten) : Type 0 where
-  pub why : Refusal
-  pub at : Place
-  pub is : answer ≡ Rewritten.Refused why at
+record Refuses (answer : Answer) : Type 0 where
+  pub why : Fault
+  pub is : answer ≡ Err why
 
 too_short : (verdict : Verdict) (new : Guarded) → Refuses (answer_of true verdict new)
-too_short Verdict.Accepted new = record { why = Refusal.PlaceTooShort; at = Place.Nowhere; is = refl }
-too_short (Verdict.Refused why at) new = record { why = why; at = at; is = refl }
+too_short (Ok _) new = record { why = fault Refusal.PlaceTooShort Place.Nowhere; is = refl }
+too_short (Err why) new = record { why = why; is = refl }
 
 cond_same : (b : Bool) (l : List ℕ) → cond b l l ≡ l
 cond_same true l = refl
@@ -54,26 +50,26 @@ module _ (memory : List ℕ) (n : ℕ) (edges code new_edges entries counts plac
   no_room : places_short new [] new_edges entries ≡ true
   no_room = rw (lt-ltb 0 (length new.code) (omega (arith, code_length Technique.Plain memory n edges (length memory - n))))
 
-  module _ (answer : Rewritten) (r : ℕ) (new_edges' entries' counts' place' : List ℕ) (put : RewrittenPut answer counts place r counts' place') where
+  module _ (answer : Answer) (r : ℕ) (new_edges' entries' counts' place' : List ℕ) (put : RewrittenPut answer counts place r counts' place') where
     nothing_put : {part : List ℕ} → unplaced ≡ true → Put verdict new [] new_edges entries answer part new_edges' entries'
         → RewriteCall memory n edges code new_edges entries counts place r code new_edges' entries' counts' place'
     nothing_put short p =
         let same : answer ≡ answer_of true verdict new = p.answers ∙ ap (λ (b : Bool). answer_of b verdict new) no_room in
         let t = too_short verdict new in
-        let is : answer ≡ Rewritten.Refused t.why t.at = same ∙ t.is in
+        let is : answer ≡ Err t.why = same ∙ t.is in
         record {
           answer = put.answer ∙ rw short (ap rewritten_number same);
           leaves =
               rw (short, t.is)
               (record {
                 code_after = refl;
-                edges_after = p.edges_after ∙ ap (λ (x : Rewritten). after_rewrite x new.edges new_edges) is;
-                entries_after = p.entries_after ∙ ap (λ (x : Rewritten). after_rewrite x new.entries entries) is;
+                edges_after = p.edges_after ∙ ap (λ (x : Answer). after_rewrite x new.edges new_edges) is;
+                entries_after = p.entries_after ∙ ap (λ (x : Answer). after_rewrite x new.entries entries) is;
                 counts_after =
                     put.counts_after
-                    ∙ ap (λ (x : Rewritten). cond (shorter counts 2) counts (counts_after x counts)) is
+                    ∙ ap (λ (x : Answer). cond (shorter counts 2) counts (counts_after x counts)) is
                     ∙ cond_same (shorter counts 2) counts;
-                place_after = put.place_after ∙ ap (λ (x : Rewritten). place_after (rewritten_place x) place) is;
+                place_after = put.place_after ∙ ap (λ (x : Answer). place_after (rewritten_place x) place) is;
               });
         }
 
@@ -105,9 +101,9 @@ module _ (memory : List ℕ) (n : ℕ) (edges code new_edges entries counts plac
             let q : Put verdict new [] new_edges entries answer part new_edges' entries' =
             subst (λ (m : ℕ). Put verdict new (take m code) new_edges entries answer part new_edges' entries') z p in
             let t = too_short verdict new in
-            let is : answer ≡ Rewritten.Refused t.why t.at =
+            let is : answer ≡ Err t.why =
             q.answers ∙ ap (λ (b : Bool). answer_of b verdict new) no_room ∙ t.is in
-            let nothing : part ≡ [] = q.code_after ∙ ap (λ (x : Rewritten). after_rewrite x new.code []) is in
+            let nothing : part ≡ [] = q.code_after ∙ ap (λ (x : Answer). after_rewrite x new.code []) is in
             let left : part ++ drop room code ≡ code = λ j. nothing j ++ drop (z j) code in
             subst (λ (x : List ℕ). RewriteCall memory n edges code new_edges entries counts place r x new_edges' entries' counts' place') (sym left)
             (nothing_put short q)

@@ -3,16 +3,16 @@ use Prim.Native.Nat.{ℕ}
 use mathlib.Core.Path.{◌≡◌, refl, ◌∙◌}
 use mathlib.Core.List.{List}
 use Rattle.guarded.specs.Rewrite.{Guarded}
-use Rattle.rewrite.specs.declared.Rewritten.{Rewritten}
-use Rattle.rewrite.specs.Answers.{plain_of}
+use Rattle.std.specs.Prelude.{Ok, Err}
+use Rattle.rewrite.specs.Answers.{Answer, plain_of}
 use Rattle.installer.specs.Calls.{rewritten_number, lent_short, rewrite_call, Leaves}
 use Rattle.installer.specs.Theorems.{RefusedRewritingChangesNothing}
 
-unchanged : (answer : Rewritten) (new : Guarded) (code edges entries counts place code' edges' entries' counts' place' : List ℕ)
+unchanged : (answer : Answer) (new : Guarded) (code edges entries counts place code' edges' entries' counts' place' : List ℕ)
     → Leaves answer new code edges entries counts place code' edges' entries' counts' place' → (rewritten_number answer ≡ 0 → ⊥)
     → (code' ≡ code) × (edges' ≡ edges) × (entries' ≡ entries) × (counts' ≡ counts)
-unchanged (Rewritten.Guarded n k) new code edges entries counts place code' edges' entries' counts' place' l h = absurd (h refl)
-unchanged (Rewritten.Refused why at) new code edges entries counts place code' edges' entries' counts' place' l h =
+unchanged (Ok _) new code edges entries counts place code' edges' entries' counts' place' l h = absurd (h refl)
+unchanged (Err _) new code edges entries counts place code' edges' entries' counts' place' l h =
     (l.code_after, l.edges_after, l.entries_after, l.counts_after)
 
 pub refused_rewriting_changes_nothing : RefusedRewritingChangesNothing

@@ -2,12 +2,12 @@
 use Prim.Native.Nat.{ℕ, ◌+◌, ◌-◌, ◌≤◌, ◌<◌}
 use mathlib.Core.Path.{◌≡◌, refl, sym, ap, subst, ◌∙◌}
 use mathlib.Core.Logic.{inl, inr}
-use mathlib.Core.Bool.{Bool, true, false, cond, ◌&&◌, or-true}
-use mathlib.Core.Option.{some}
+use mathlib.Core.Bool.{Bool, true, false, cond, or-true}
+use Rattle.std.specs.Prelude.{Some, Result, Ok, Err}
 use mathlib.Core.List.{List, ◌++◌}
 use native.Mathlib.Omega.{arith}
 use native.Mathlib.Decide.{dec_lt}
-use lib.Dec.{ltb, leb, eqb, lit<}
+use lib.Dec.{ltb, eqb, lit<}
 use lib.ListN.{length, get_or, set, take, length-set, get_or-append}
 use lib.Seq.{get_or-take, take-set-le, take-append_seam}
 use borrow.Author.Tests.{ltb-false, lt-ltb, leb-true, le-leb, eq-eqb}
@@ -20,27 +20,11 @@ use Rattle.isa.specs.Words.{decode_of}
 use Rattle.isa.specs.Instructions.{instr_at, branch_target, is_jump, is_load}
 use Rattle.addresses.specs.Addresses.{address_of}
 use Rattle.machine.specs.declared.Stop.{Stop}
-use Rattle.machine.specs.declared.Outcome.{Outcome}
+use Rattle.machine.specs.declared.Halt.{Halt}
 use Rattle.machine.specs.declared.Effect.{Effect}
 use Rattle.machine.specs.declared.Stepped.{Stepped}
 use Rattle.machine.specs.Numbers.{stop_number}
-use Rattle.machine.specs.Steps.{
-  fetch_end,
-  store_start,
-  next_allowed,
-  reg_of,
-  state_of,
-  load_of,
-  store_of,
-  effect_of,
-  settle_of,
-  intent_of,
-  after_of,
-  memory_after,
-  stepped,
-  step_of,
-  step_memory,
-}
+use Rattle.machine.specs.Steps.{fetch_end, next_allowed, reg_of, state_of, load_of, store_of, effect_of, settle_of, intent_of, after_of, memory_after, stepped, storable, step_of, step_memory}
 use Rattle.graph.specs.Claim.{id_of, successor_by, is_successor}
 use Rattle.checker.specs.Conditions.{Conditions}
 use Rattle.checker.proofs.Listed.{listed_edge}
@@ -60,19 +44,19 @@ use Rattle.integrity.proofs.Keeps.{
 }
 
 -- what the figures do with an instruction, told by the effect: it falls through, branches, jumps or stops
-data Told (t : Technique) (code memory edges : List ℕ) (c : Config) (i : Instr) : Effect → Type 0 where
+data Told (t : Technique) (code memory edges : List ℕ) (c : Config) (i : Instr) : Result Effect Stop → Type 0 where
   goes : successor_by i edges c.state.pc (c.state.pc + 1) ≡ true
       → Falls memory (length code) i (λ x. x ≡ view c.state.regs) (view c.state.regs)
-      → Told t code memory edges c i (Effect.Go (c.state.pc + 1))
+      → Told t code memory edges c i (Ok (Effect.Go (c.state.pc + 1)))
   sets : (rd value : ℕ) → successor_by i edges c.state.pc (c.state.pc + 1) ≡ true
       → Falls memory (length code) i (λ x. x ≡ view (set c.state.regs rd value)) (view c.state.regs)
-      → Told t code memory edges c i (Effect.SetRegister rd value (c.state.pc + 1))
+      → Told t code memory edges c i (Ok (Effect.SetRegister rd value (c.state.pc + 1)))
   puts : (address value : ℕ) → length code ≤ address → successor_by i edges c.state.pc (c.state.pc + 1) ≡ true
       → Falls memory (length code) i (λ x. x ≡ view c.state.regs) (view c.state.regs)
-      → Told t code memory edges c i (Effect.PutWord address value (c.state.pc + 1))
-  branches : (w : ℕ) → branch_target i ≡ some w → successor_by i edges c.state.pc w ≡ true → Told t code memory edges c i (Effect.Go w)
-  jumps : (rs : ℕ) → i ≡ Instr.Jmp rs → Told t code memory edges c i (Effect.Go (reg_of c.state rs))
-  stops : (stop : Stop) → StopAllowed t code c.state.pc (stop_number stop) → Told t code memory edges c i (Effect.Stop stop)
+      → Told t code memory edges c i (Ok (Effect.PutWord address value (c.state.pc + 1)))
+  branches : (w : ℕ) → branch_target i ≡ Some w → successor_by i edges c.state.pc w ≡ true → Told t code memory edges c i (Ok (Effect.Go w))
+  jumps : (rs : ℕ) → i ≡ Instr.Jmp rs → Told t code memory edges c i (Ok (Effect.Go (reg_of c.state rs)))
+  stops : (stop : Stop) → StopAllowed t code c.state.pc (stop_number stop) → Told t code memory edges c i (Err stop)
 
 same : (x : ℕ) → eqb x x ≡ true
 same x = eq-eqb x x refl
@@ -121,13 +105,13 @@ module _ (t : Technique) (code checked edges : List ℕ) (ok : Conditions t (cod
   abbrev reg : ℕ → ℕ
   reg r = reg_of c.state r
 
-  abbrev Tells : Instr → Effect → Type 0
+  abbrev Tells : Instr → Result Effect Stop → Type 0
   Tells i e = Told t code memory edges c i e
 
   -- a step made to q that leaves these registers and this memory is as claimed, and keeps the invariant
   abbrev MadeTo : ℕ → List ℕ → List ℕ → Type 0
   MadeTo q regs' m' =
-      StepHeld t code edges c Outcome.Made (config (state_of regs' q) m') × Inv t memory n edges (config (state_of regs' q) m')
+      StepHeld t code edges c (Ok tt) (config (state_of regs' q) m') × Inv t memory n edges (config (state_of regs' q) m')
 
   code_word : instr_at memory pc ≡ instr_at code pc
   code_word = ap decode_of (get_or-append code checked 0 pc inv.in_code)
@@ -145,15 +129,15 @@ module _ (t : Technique) (code checked edges : List ℕ) (ok : Conditions t (cod
 
       go : (b : Bool)
           → Tells (Instr.Ld rd rs w)
-          (cond b (Effect.SetRegister rd (get_or c.memory (address_of (reg rs) w) 0) (pc + 1)) (Effect.Stop Stop.Access))
+          (cond b (Ok (Effect.SetRegister rd (get_or c.memory (address_of (reg rs) w) 0) (pc + 1))) (Err Stop.Access))
       go true = sets rd _ (same (pc + 1)) (_, found, view_set regs rd _)
       go false = stops Stop.Access (at_load t code pc (ap is_load (sym code_word ∙ e)))
 
   -- a store goes to data: plain, by the step's own test; with memory guards, by its guard, and then it is made
   stores : (u : Technique) → t ≡ u → (rd rs w : ℕ) → instr_at memory pc ≡ Instr.St rd rs w → (b : Bool)
-      → (leb (store_start u n) (address_of (reg rd) w) && ltb (address_of (reg rd) w) (length c.memory)) ≡ b
+      → storable u n c.memory (address_of (reg rd) w) ≡ b
       → Tells (Instr.St rd rs w)
-      (cond b (Effect.PutWord (address_of (reg rd) w) (reg rs) (pc + 1)) (Effect.Stop Stop.Access))
+      (cond b (Ok (Effect.PutWord (address_of (reg rd) w) (reg rs) (pc + 1))) (Err Stop.Access))
   stores Technique.Plain u rd rs w e true p = puts _ _ (leb-true n _ (and_left _ _ p)) (same (pc + 1)) refl
   stores Technique.Plain u rd rs w e false p = stops Stop.Access (rw u (below_four code pc 3 (lit< tt)))
   stores Technique.MemoryGuards u rd rs w e true p = puts _ _ (store_here t memory n edges ok c inv u rd rs w e).0 (same (pc + 1)) refl
@@ -173,7 +157,7 @@ module _ (t : Technique) (code checked edges : List ℕ) (ok : Conditions t (cod
   told (Instr.Movi rd w) e = sets rd w (same (pc + 1)) (view_set regs rd w)
   told (Instr.Bgt rs rt w) e = go (ltb (reg rt) (reg rs)) refl
     where
-      go : (b : Bool) → ltb (reg rt) (reg rs) ≡ b → Tells (Instr.Bgt rs rt w) (Effect.Go (cond b w (pc + 1)))
+      go : (b : Bool) → ltb (reg rt) (reg rs) ≡ b → Tells (Instr.Bgt rs rt w) (Ok (Effect.Go (cond b w (pc + 1))))
       go true p = branches w refl (rw (same w) (or-true (eqb w (pc + 1))))
       go false p =
           goes
@@ -185,16 +169,16 @@ module _ (t : Technique) (code checked edges : List ℕ) (ok : Conditions t (cod
   told (Instr.St rd rs w) e = stores t refl rd rs w e _ refl
   told Instr.Illegal e = stops Stop.Illegal (at_illegal t code pc)
 
-  abbrev after : Effect → Config
+  abbrev after : Result Effect Stop → Config
   after e = config (after_of c.state e).state (memory_after c.memory e)
 
-  abbrev Good : Effect → Type 0
+  abbrev Good : Result Effect Stop → Type 0
   Good e = StepHeld t code edges c (after_of c.state e).outcome (after e) × Inv t memory n edges (after e)
 
   kept_code : (m : List ℕ) → take n m ≡ take n memory → take n m ≡ code
   kept_code m e = e ∙ take-append_seam code checked
 
-  stop_good : (stop : Stop) → StopAllowed t code pc (stop_number stop) → Good (Effect.Stop stop)
+  stop_good : (stop : Stop) → StopAllowed t code pc (stop_number stop) → Good (Err stop)
   unfolding after_of memory_after
   stop_good stop a = (
     record {
@@ -245,10 +229,10 @@ module _ (t : Technique) (code checked edges : List ℕ) (ok : Conditions t (cod
       (fallen_next t memory n edges ok c inv (view regs') (rw here falls))
 
   -- a branch stays in code, and lands inside no guard
-  branch_in : (i : Instr) → instr_at memory pc ≡ i → (w : ℕ) → branch_target i ≡ some w → w < n
+  branch_in : (i : Instr) → instr_at memory pc ≡ i → (w : ℕ) → branch_target i ≡ Some w → w < n
   branch_in i here w b = ok.instrumented.targets_in_code pc w inv.in_code (ap branch_target here ∙ b)
 
-  branch_good : (i : Instr) → instr_at memory pc ≡ i → (w : ℕ) → branch_target i ≡ some w → successor_by i edges pc w ≡ true
+  branch_good : (i : Instr) → instr_at memory pc ≡ i → (w : ℕ) → branch_target i ≡ Some w → successor_by i edges pc w ≡ true
       → MadeTo w regs c.memory
   branch_good i here w b by =
       let out = ok.instrumented.targets_outside_guards pc w inv.in_code (ap branch_target here ∙ b) in
@@ -272,17 +256,17 @@ module _ (t : Technique) (code checked edges : List ℕ) (ok : Conditions t (cod
       inv.registers (λ p. absurd (inside_no_label t memory n edges q (id_of edges n pc) p lands.0))
 
   -- an effect whose next pc is in code is not stopped
-  unstopped : (e : Effect) (q : ℕ) → q < n → Good e → Good (cond (next_allowed t n q) e (Effect.Stop Stop.Next))
+  unstopped : (e : Effect) (q : ℕ) → q < n → Good (Ok e) → Good (cond (next_allowed t n q) (Ok e) (Err Stop.Next))
   unstopped e q to good = rw (in-code-allowed t n q to) good
 
   -- stop 4, or the jump
   jumped : (rs : ℕ) → instr_at memory pc ≡ Instr.Jmp rs → (b : Bool) → next_allowed t n (reg rs) ≡ b
-      → Good (cond b (Effect.Go (reg rs)) (Effect.Stop Stop.Next))
+      → Good (cond b (Ok (Effect.Go (reg rs))) (Err Stop.Next))
   unfolding after_of memory_after
   jumped rs here true p = jump_good rs here p
   jumped rs here false p = stop_good Stop.Next (at_jump t code pc n (reg rs) (ap is_jump (sym code_word ∙ here)) p)
 
-  told_good : (i : Instr) → instr_at memory pc ≡ i → (e : Effect) → Tells i e → Good (settle_of t n e)
+  told_good : (i : Instr) → instr_at memory pc ≡ i → (e : Result Effect Stop) → Tells i e → Good (settle_of t n e)
   unfolding settle_of after_of memory_after
   told_good i here _ (goes by falls) =
       unstopped (Effect.Go (pc + 1)) (pc + 1) (falls_in i here by)
@@ -311,7 +295,7 @@ module _ (t : Technique) (code checked edges : List ℕ) (ok : Conditions t (cod
 
   -- the step as it is where the memory is shaped, and as it is where it is not
   abbrev step_if : Bool → Stepped
-  step_if b = cond b (after_of c.state (intent_of t n c.memory c.state)) (stepped c.state (Outcome.Refused Refusal.Shape))
+  step_if b = cond b (after_of c.state (intent_of t n c.memory c.state)) (stepped c.state (Err (Halt.Refused Refusal.Shape)))
 
   abbrev left_if : Bool → Config
   left_if b = config (step_if b).state (cond b (memory_after c.memory (intent_of t n c.memory c.state)) c.memory)

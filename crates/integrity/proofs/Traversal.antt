@@ -6,14 +6,15 @@ use mathlib.Core.Bool.{Bool, true, false, cond}
 use mathlib.Core.List.{List, [], ◌∷◌, ◌++◌, Memᴰ}
 use native.Mathlib.Omega.{arith}
 use lib.ListN.{length}
+use Rattle.std.specs.Prelude.{Ok, Err}
 use Rattle.lists.proofs.Bools.{clash}
 use Rattle.answers.specs.declared.Refusal.{Refusal}
 use Rattle.answers.specs.Shape.{memory_shaped}
 use Rattle.isa.specs.declared.Technique.{Technique}
-use Rattle.machine.specs.declared.Outcome.{Outcome}
-use Rattle.machine.specs.declared.Ending.{Ending}
+use Rattle.machine.specs.declared.Halt.{Halt}
 use Rattle.machine.specs.declared.Ran.{Ran}
-use Rattle.machine.specs.Runs.{ran, ending_of, if_made, run_from, run_memory_from, run_of, run_memory}
+use Rattle.machine.specs.Numbers.{Outcome}
+use Rattle.machine.specs.Runs.{ran, if_made, run_from, run_memory_from, run_of, run_memory}
 use Rattle.integrity.specs.Calls.{
   Call,
   Config,
@@ -72,12 +73,11 @@ module _ (t : Technique) (n : ℕ) (Inv : Config → Type 0) (Claim : Event → 
           (config
           (if_made o
           (run_from t n k (after_step t n c).memory (after_step t n c).state (count + 1))
-          (ran (after_step t n c).state (ending_of o) count)
+          (ran (after_step t n c).state o count)
           ).state
           (if_made o (run_memory_from t n k (after_step t n c).memory (after_step t n c).state) (after_step t n c).memory))
-      go Outcome.Made inv' more = more
-      go (Outcome.Stopped stop) inv' more = (tt, inv')
-      go (Outcome.Refused refusal) inv' more = (tt, inv')
+      go (Ok _) inv' more = more
+      go (Err halt) inv' more = (tt, inv')
 
   called : (call : Call) (c : Config) → Inv c → All Claim (events_of t n call c) × Inv (after_call t n call c)
   unfolding run_of run_memory
@@ -88,7 +88,7 @@ module _ (t : Technique) (n : ℕ) (Inv : Config → Type 0) (Claim : Event → 
           → All Claim (cond b (steps_of t n limit c) [])
           × Inv
           (config
-          (cond b (run_from t n limit c.memory c.state 0) (ran c.state (Ending.Refused Refusal.Shape) 0)).state
+          (cond b (run_from t n limit c.memory c.state 0) (ran c.state (Err (Halt.Refused Refusal.Shape)) 0)).state
           (cond b (run_memory_from t n limit c.memory c.state) c.memory))
       go true = stepped limit c 0 inv
       go false = (tt, inv)
@@ -109,7 +109,7 @@ abbrev Answers : Technique → ℕ → ℕ → Config → ℕ → Type 0
 Answers t n k c count =
     (count + steps_made (steps_of t n k c) ≡ (run_from t n k c.memory c.state count).count)
     × (left_by c (steps_of t n k c) ≡ ran_from t n k c count)
-    × (ending_by Ending.Spent (steps_of t n k c) ≡ (run_from t n k c.memory c.state count).ending)
+    × (ending_by (Ok tt) (steps_of t n k c) ≡ (run_from t n k c.memory c.state count).ending)
 
 module _ (t : Technique) (n k : ℕ) (c : Config) (count : ℕ) where
   abbrev next : Config
@@ -119,16 +119,15 @@ module _ (t : Technique) (n k : ℕ) (c : Config) (count : ℕ) where
   steps = steps_of t n k next
 
   abbrev rest : Outcome → Ran
-  rest o = if_made o (run_from t n k next.memory next.state (count + 1)) (ran next.state (ending_of o) count)
+  rest o = if_made o (run_from t n k next.memory next.state (count + 1)) (ran next.state o count)
 
   answers_more : (o : Outcome) → Answers t n k next (count + 1)
       → (count + steps_made (Event.Tried c o next ∷ if_made o steps []) ≡ (rest o).count)
       × (left_by next (if_made o steps [])
       ≡ config (rest o).state (if_made o (run_memory_from t n k next.memory next.state) next.memory))
-      × (ending_by (ending_of o) (if_made o steps []) ≡ (rest o).ending)
-  answers_more Outcome.Made more = (omega (arith, more.0), more.1, more.2)
-  answers_more (Outcome.Stopped stop) more = (omega arith, refl, refl)
-  answers_more (Outcome.Refused refusal) more = (omega arith, refl, refl)
+      × (ending_by o (if_made o steps []) ≡ (rest o).ending)
+  answers_more (Ok _) more = (omega (arith, more.0), more.1, more.2)
+  answers_more (Err halt) more = (omega arith, refl, refl)
 
 run_answers : (t : Technique) (n k : ℕ) (c : Config) (count : ℕ) → Answers t n k c count
 unfolding run_from run_memory_from

@@ -4,10 +4,9 @@ use Rattle.std.specs.Prelude.{ℕ, zero, suc, cond, List, [], ◌∷◌, ◌++�
 use Rattle.answers.specs.Shape.{memory_shaped}
 use Rattle.isa.specs.declared.Technique.{Technique}
 use Rattle.machine.specs.declared.State.{State}
-use Rattle.machine.specs.declared.Outcome.{Outcome}
-use Rattle.machine.specs.declared.Ending.{Ending}
+use Rattle.machine.specs.Numbers.{Outcome}
 use Rattle.machine.specs.Steps.{step_of, step_memory}
-use Rattle.machine.specs.Runs.{ending_of, if_made, run_of, run_memory}
+use Rattle.machine.specs.Runs.{if_made, run_of, run_memory}
 use Rattle.bus.specs.Bus.{write_data_memory, write_register_of}
 
 -- "steps of that technique, runs by such steps with any limit, and bus writes to a data word or a register, with any address,
@@ -82,7 +81,7 @@ left_by c [] = c
 left_by c (Event.Stands d ∷ events) = left_by c events
 left_by c (Event.Tried before outcome after ∷ events) = left_by after events
 
-abbrev pub ending_by : Ending → List Event → Ending
+abbrev pub ending_by : Outcome → List Event → Outcome
 ending_by ending [] = ending
 ending_by ending (Event.Stands d ∷ events) = ending_by ending events
-ending_by ending (Event.Tried before outcome after ∷ events) = ending_by (ending_of outcome) events
+ending_by ending (Event.Tried before outcome after ∷ events) = ending_by outcome events

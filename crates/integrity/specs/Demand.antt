@@ -1,14 +1,12 @@
 -- Demand 3 (document 01, "Lists of calls"), one statement over the whole list, and that a run's answer is that of its steps.
-use Rattle.std.specs.Prelude.{ℕ, ◌≡◌, true, ◌⊎◌, length, take}
+use Rattle.std.specs.Prelude.{ℕ, ◌≡◌, true, ◌⊎◌, length, take, Ok, Err}
 use mathlib.Core.List.{List, ◌++◌, Memᴰ}
-use Rattle.answers.specs.declared.Verdict.{Verdict}
 use Rattle.answers.specs.Shape.{memory_shaped}
 use Rattle.isa.specs.declared.Technique.{Technique}
 use Rattle.isa.specs.Instructions.{instr_at, is_jump, is_load}
 use Rattle.machine.specs.declared.Stop.{Stop}
-use Rattle.machine.specs.declared.Outcome.{Outcome}
-use Rattle.machine.specs.declared.Ending.{Ending}
-use Rattle.machine.specs.Numbers.{outcome_number}
+use Rattle.machine.specs.declared.Halt.{Halt}
+use Rattle.machine.specs.Numbers.{Outcome, outcome_number}
 use Rattle.machine.specs.Steps.{state_of}
 use Rattle.machine.specs.Runs.{run_of}
 use Rattle.graph.specs.Claim.{is_successor}
@@ -32,11 +30,11 @@ StopAllowed Technique.MemoryGuards code pc number = (number ≡ 2) ⊎ ((number 
 -- what is claimed of a step tried
 pub record StepHeld (t : Technique) (code edges : List ℕ) (before : Config) (outcome : Outcome) (after : Config) : Type 0 where
   -- "A step made is an edge of the graph when the pc after it is a successor of the pc before."
-  pub lands_on_edge : outcome ≡ Outcome.Made
+  pub lands_on_edge : outcome ≡ Ok tt
       → is_successor code (length code) edges before.state.pc after.state.pc ≡ true
-  pub stop_allowed : (outcome ≡ Outcome.Made → ⊥) → StopAllowed t code before.state.pc (outcome_number outcome)
+  pub stop_allowed : (outcome ≡ Ok tt → ⊥) → StopAllowed t code before.state.pc (outcome_number outcome)
   -- "A step that cannot be made .. changes nothing"
-  pub stop_changes_nothing : (outcome ≡ Outcome.Made → ⊥) → after ≡ before
+  pub stop_changes_nothing : (outcome ≡ Ok tt → ⊥) → after ≡ before
   pub code_same : CodeSame code after
 
 abbrev pub Held : Technique → List ℕ → List ℕ → Event → Type 0
@@ -47,7 +45,7 @@ Held t code edges (Event.Tried before outcome after) = StepHeld t code edges bef
 -- from whatever registers, the claim holds of each event of the trace.
 abbrev pub OverAccepted : Technique → (List ℕ → List ℕ → Event → Type 0) → Type 0
 OverAccepted t claim =
-    (code checked edges : List ℕ) → verdict_of t (code ++ checked) (length code) edges ≡ Verdict.Accepted
+    (code checked edges : List ℕ) → verdict_of t (code ++ checked) (length code) edges ≡ Ok tt
     → (registers data_words : List ℕ) → length registers ≡ 32 → length data_words ≡ length checked → (calls : List Call)
     → (e : Event) → Memᴰ e (trace t (length code) calls (fresh registers code data_words)) → claim code edges e
 
@@ -59,7 +57,7 @@ Demand3 = (t : Technique) → OverAccepted t (Held t)
 abbrev pub FourAtJump : List ℕ → List ℕ → Event → Type 0
 FourAtJump code edges (Event.Stands c) = Unit {0}
 FourAtJump code edges (Event.Tried before outcome after) =
-    outcome ≡ Outcome.Stopped Stop.Next → is_jump (instr_at code before.state.pc) ≡ true
+    outcome ≡ Err (Halt.Stopped Stop.Next) → is_jump (instr_at code before.state.pc) ≡ true
 
 abbrev pub StopFourAtJumps : Type 0
 StopFourAtJumps = OverAccepted Technique.Plain FourAtJump
@@ -69,7 +67,7 @@ pub record RunAnswers (t : Technique) (n limit : ℕ) (c : Config) : Type 0 wher
   pub count : steps_made (events_of t n (Call.Run limit) c) ≡ (run_of t n limit c.memory c.state).count
   pub left : left_by c (events_of t n (Call.Run limit) c) ≡ after_call t n (Call.Run limit) c
   pub ending : memory_shaped (length c.memory) n ≡ true
-      → ending_by Ending.Spent (events_of t n (Call.Run limit) c) ≡ (run_of t n limit c.memory c.state).ending
+      → ending_by (Ok tt) (events_of t n (Call.Run limit) c) ≡ (run_of t n limit c.memory c.state).ending
 
 abbrev pub RunIsItsSteps : Type 0
 RunIsItsSteps = (t : Technique) (n limit : ℕ) (c : Config) → RunAnswers t n limit c

@@ -1,15 +1,15 @@
 -- Demand 3 says something: two accepted programs, one for each technique, and lists of calls over them whose steps and bus writes are
 -- made, from any registers; and stop 4, where a branch may not meet it and where a jmp does.
-use Rattle.std.specs.Prelude.{ℕ, zero, suc, ◌≡◌, List, [], ◌∷◌, ◌++◌, map, set}
+use Rattle.std.specs.Prelude.{ℕ, zero, suc, ◌≡◌, List, [], ◌∷◌, ◌++◌, map, set, Ok, Err}
 use Rattle.answers.specs.declared.Refusal.{Refusal}
 use Rattle.answers.specs.declared.Place.{Place}
-use Rattle.answers.specs.declared.Verdict.{Verdict}
+use Rattle.answers.specs.Faults.{fault}
 use Rattle.isa.specs.declared.Instr.{Instr}
 use Rattle.isa.specs.declared.Technique.{Technique}
 use Rattle.isa.specs.Words.{encode_of}
 use Rattle.isa.specs.PostProgram.{post_code, post_edges}
 use Rattle.machine.specs.declared.Stop.{Stop}
-use Rattle.machine.specs.declared.Ending.{Ending}
+use Rattle.machine.specs.declared.Halt.{Halt}
 use Rattle.checker.specs.Verdicts.{verdict_of}
 use Rattle.integrity.specs.Calls.{Call, trace, steps_made, ending_by, after_all}
 use Rattle.integrity.specs.Demand.{fresh}
@@ -43,8 +43,8 @@ guarded_calls =
     ∷ Call.WriteRegister 5 16 ∷ Call.Run 100 ∷ Call.Step ∷ []
 
 pub record ProgramsAccepted : Type 0 where
-  pub post : verdict_of Technique.Plain post_code 9 post_edges ≡ Verdict.Accepted
-  pub guards : (d : ℕ) → verdict_of Technique.MemoryGuards (guarded ++ d ∷ []) 18 guarded_edges ≡ Verdict.Accepted
+  pub post : verdict_of Technique.Plain post_code 9 post_edges ≡ Ok tt
+  pub guards : (d : ℕ) → verdict_of Technique.MemoryGuards (guarded ++ d ∷ []) 18 guarded_edges ≡ Ok tt
 
 -- from registers r 0 to r 31, and a data word d
 pub record CallsMade (r : ℕ → ℕ) (d : ℕ) : Type 0 where
@@ -66,13 +66,13 @@ outward_calls = Call.Step ∷ Call.WriteRegister 5 9 ∷ Call.Run 100 ∷ []
 -- What K2 is about, from registers r 0 to r 31: a branch to the last code word is accepted, and one past it is not, since its step
 -- would give stop 4; an accepted program meets that stop at its jmp, at 6.
 pub record StopFourShown (r : ℕ → ℕ) : Type 0 where
-  pub branch_to_last : verdict_of Technique.Plain (branch_to 8) 9 post_edges ≡ Verdict.Accepted
-  pub branch_out : verdict_of Technique.Plain (branch_to 9) 9 post_edges ≡ Verdict.Refused Refusal.BranchTarget (Place.Address 0)
+  pub branch_to_last : verdict_of Technique.Plain (branch_to 8) 9 post_edges ≡ Ok tt
+  pub branch_out : verdict_of Technique.Plain (branch_to 9) 9 post_edges ≡ Err (fault Refusal.BranchTarget (Place.Address 0))
   pub branch_would_stop :
-      ending_by Ending.Spent (trace Technique.Plain 9 (Call.Step ∷ []) (fresh (registers_from r 0 32) (branch_to 9) []))
-      ≡ Ending.Stopped Stop.Next
-  pub jump_accepted : verdict_of Technique.Plain (post_code ++ 7 ∷ []) 9 post_edges ≡ Verdict.Accepted
+      ending_by (Ok tt) (trace Technique.Plain 9 (Call.Step ∷ []) (fresh (registers_from r 0 32) (branch_to 9) []))
+      ≡ Err (Halt.Stopped Stop.Next)
+  pub jump_accepted : verdict_of Technique.Plain (post_code ++ 7 ∷ []) 9 post_edges ≡ Ok tt
   pub jump_stops :
-      ending_by Ending.Spent (trace Technique.Plain 9 outward_calls (fresh (registers_from r 0 32) post_code (7 ∷ [])))
-      ≡ Ending.Stopped Stop.Next
+      ending_by (Ok tt) (trace Technique.Plain 9 outward_calls (fresh (registers_from r 0 32) post_code (7 ∷ [])))
+      ≡ Err (Halt.Stopped Stop.Next)
   pub stands_at_jump : (after_all Technique.Plain 9 outward_calls (fresh (registers_from r 0 32) post_code (7 ∷ []))).state.pc ≡ 6

@@ -2,7 +2,7 @@
 use Prim.Native.Nat.{ℕ, ◌/◌, ◌%◌, ◌^◌}
 use mathlib.Core.Path.{◌≡◌, refl, sym, ap, ◌∙◌}
 use mathlib.Core.Bool.{Bool, true, false, not, cond, ◌&&◌, ◌||◌, and-false}
-use mathlib.Core.Option.{none, some}
+use Rattle.std.specs.Prelude.{None, Some}
 use borrow.Author.Tests.{eq-eqb, eqb-true, not-true}
 use lib.Dec.{eqb}
 use Rattle.lists.proofs.Bools.{and_left, and_right, both_true, same_bool, true_false}
@@ -35,6 +35,10 @@ legal_kind x e = sym (ap (λ (f : Fields). f.kind) (legal_fields x e))
 pub unknown_kind : (x : ℕ) → exact (split x) ≡ false → Kind.Unknown ≡ (fields_of (decode_of x)).kind
 unfolding decode_of
 unknown_kind x e = sym (ap (λ (b : Bool). (fields_of (cond b (instr_of (split x)) Instr.Illegal)).kind) e)
+
+pub illegal_fields : (x : ℕ) → exact (split x) ≡ false → fields Kind.Unknown 0 0 0 0 ≡ fields_of (decode_of x)
+unfolding decode_of
+illegal_fields x e = sym (ap (λ (b : Bool). fields_of (cond b (instr_of (split x)) Instr.Illegal)) e)
 
 -- a word is illegal precisely where it is no exact form
 pub illegal_exact : (x : ℕ) → not (exact (split x)) ≡ is_illegal (decode_of x)
@@ -95,19 +99,24 @@ is_known_kind k x = go (known k) refl
         ∙ and-false (eqb (opcode_of k) (x / 2 ^ 56))
         ∙ sym (ap (λ (b : Bool). b && is_kind k (decode_of x)) h)
 
+-- a word of another opcode
+pub other_opcode : (k : Kind) (x : ℕ) → eqb (opcode_of k) (x / 2 ^ 56) ≡ false
+    → eqb (opcode_of k) (x / 2 ^ 56) ≡ (known k && is_kind k (decode_of x))
+other_opcode k x e = e ∙ sym (ap (λ (b : Bool). b && exact (fields_as k x)) e) ∙ is_known_kind k x
+
 -- the number of a label and the target of a branch, read off the word; and words that have none
-pub label_low : (x : ℕ) → is_kind Kind.Label (decode_of x) ≡ true → label_number (decode_of x) ≡ some (x % 2 ^ 32)
+pub label_low : (x : ℕ) → is_kind Kind.Label (decode_of x) ≡ true → label_number (decode_of x) ≡ Some (x % 2 ^ 32)
 label_low x h = ap label_number (kind_decode Kind.Label refl x h)
 
-pub no_label : (i : Instr) → is_kind Kind.Label i ≡ false → label_number i ≡ none
+pub no_label : (i : Instr) → is_kind Kind.Label i ≡ false → label_number i ≡ None
 no_label i h = rw h
 
-pub branch_low : (x : ℕ) → is_branch (decode_of x) ≡ true → branch_target (decode_of x) ≡ some (x % 2 ^ 32)
+pub branch_low : (x : ℕ) → is_branch (decode_of x) ≡ true → branch_target (decode_of x) ≡ Some (x % 2 ^ 32)
 branch_low x h = go (is_kind Kind.Bgt (decode_of x)) refl
   where
-    go : (b : Bool) → is_kind Kind.Bgt (decode_of x) ≡ b → branch_target (decode_of x) ≡ some (x % 2 ^ 32)
+    go : (b : Bool) → is_kind Kind.Bgt (decode_of x) ≡ b → branch_target (decode_of x) ≡ Some (x % 2 ^ 32)
     go true e = ap branch_target (kind_decode Kind.Bgt refl x e)
     go false e = ap branch_target (kind_decode Kind.Jd refl x (sym (ap (λ (b : Bool). b || is_kind Kind.Jd (decode_of x)) e) ∙ h))
 
-pub no_branch : (i : Instr) → is_branch i ≡ false → branch_target i ≡ none
+pub no_branch : (i : Instr) → is_branch i ≡ false → branch_target i ≡ None
 no_branch i h = rw h

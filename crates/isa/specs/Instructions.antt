@@ -1,6 +1,5 @@
 -- What the papers ask of an instruction, by its kind and its fields.
-use Rattle.std.specs.Prelude.{ℕ, Bool, cond, ◌||◌, List, get_or}
-use Rattle.std.proofs.Math.Option.{Option, none, some}
+use Rattle.std.specs.Prelude.{ℕ, Bool, cond, ◌||◌, List, get_or, Option, None, Some}
 use Rattle.isa.specs.declared.Kind.{Kind}
 use Rattle.isa.specs.declared.Instr.{Instr}
 use Rattle.isa.specs.Words.{same_kind, fields_of, decode_of}
@@ -35,8 +34,8 @@ is_branch i = is_kind Kind.Bgt i || is_kind Kind.Jd i
 
 -- the number of a label
 abbrev pub label_number : Instr → Option ℕ
-label_number i = cond (is_kind Kind.Label i) (some (fields_of i).w) none
+label_number i = cond (is_kind Kind.Label i) (Some (fields_of i).w) None
 
 -- the target of a bgt or a jd
 abbrev pub branch_target : Instr → Option ℕ
-branch_target i = cond (is_branch i) (some (fields_of i).w) none
+branch_target i = cond (is_branch i) (Some (fields_of i).w) None

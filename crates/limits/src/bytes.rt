@@ -1,4 +1,10 @@
 // Bytes of parcels: a parcel of given counts, its edges rising, its other bytes a pattern; and what the lent places must hold afterwards.
+ghost use Rattle.std.specs.Prelude.{◌<◌, ◌≤◌, ◌^◌};
+
+use parcel::Counts;
+use std::array;
+use std::iter::repeat;
+
 pub(crate) const ROOM: usize = 41000;
 
 pub(crate) const UNTOUCHED_WORD: u64 = 0xa5a5_a5a5_a5a5_a5a5;
@@ -7,167 +13,138 @@ pub(crate) const UNTOUCHED_NUMBER: u16 = 0x5a5a;
 
 pub(crate) const UNTOUCHED_BYTE: u8 = 0x3c;
 
-// Code words, edges and data words of a parcel, each below 4,096.
+// Code words, edges and data words of a parcel.
 #[derive(Clone, Copy)]
-pub(crate) struct Counts {
-    pub(crate) code: usize,
-    pub(crate) edges: usize,
-    pub(crate) words: usize,
+pub(crate) struct Shape {
+    code: u16,
+    edges: u16,
+    words: u16,
 }
 
-pub(crate) fn counted(code: usize, edges: usize, words: usize) -> Counts {
-    Counts {
-        code: code % 4096,
-        edges: edges % 4096,
-        words: words % 4096,
+impl Shape {
+    pub(crate) fn new(code: u16, edges: u16, words: u16) -> Self {
+        Self { code, edges, words }
     }
-}
 
-pub(crate) fn edges_at(c: Counts) -> usize {
-    4 + c.code % 4096 * 8
-}
-
-pub(crate) fn data_at(c: Counts) -> usize {
-    8 + c.code % 4096 * 8 + c.edges % 4096 * 4
-}
-
-pub(crate) fn size_of(c: Counts) -> usize {
-    12 + c.code % 4096 * 8 + c.edges % 4096 * 4 + c.words % 4096 * 8
-}
-
-pub(crate) fn sum(a: usize, b: usize) -> usize {
-    std::num::wrapping_add_usize(a, b)
-}
-
-// A parcel of these counts, its edges rising, its other bytes a pattern.
-pub(crate) fn laid(c: Counts) -> [u8; ROOM] {
-    let mut bytes = [0u8; ROOM];
-    let mut k = 0;
-    while k < ROOM {
-        bytes[k] = pattern(k);
-        k += 1;
-    }
-    put_count(&mut bytes, 0, c.code);
-    put_count(&mut bytes, edges_at(c), c.edges);
-    put_count(&mut bytes, data_at(c), c.words);
-    put_jumps(&mut bytes, sum(edges_at(c), 4), c.edges);
-    bytes
-}
-
-// The same with the last two edges as one edge twice.
-pub(crate) fn laid_with_repeat(c: Counts) -> [u8; ROOM] {
-    let mut bytes = laid(c);
-    copy_four(&mut bytes, std::num::wrapping_sub_usize(data_at(c), 8));
-    bytes
-}
-
-// The same with a count of 2^32 - 1 at a place.
-pub(crate) fn laid_with_huge(c: Counts, at: usize) -> [u8; ROOM] {
-    let mut bytes = laid(c);
-    put_count(&mut bytes, at, 0xffff_ffff);
-    bytes
-}
-
-// The edges from a place on start at 0, 1, 2 and so on, and so they rise.
-fn put_jumps(bytes: &mut [u8; ROOM], at: usize, count: usize) {
-    let mut k = 0;
-    while k < count {
-        let place = sum(at, k % 4096 * 4);
-        put_byte(bytes, place, (k % 256) as u8);
-        put_byte(bytes, sum(place, 1), (k / 256 % 256) as u8);
-        k += 1;
-    }
-}
-
-// The four bytes at a place, again after them.
-fn copy_four(bytes: &mut [u8; ROOM], at: usize) {
-    let a = byte(&*bytes, at);
-    let b = byte(&*bytes, sum(at, 1));
-    let c = byte(&*bytes, sum(at, 2));
-    let d = byte(&*bytes, sum(at, 3));
-    put_byte(bytes, sum(at, 4), a);
-    put_byte(bytes, sum(at, 5), b);
-    put_byte(bytes, sum(at, 6), c);
-    put_byte(bytes, sum(at, 7), d);
-}
-
-fn pattern(k: usize) -> u8 {
-    (k % 251) as u8
-}
-
-fn put_count(bytes: &mut [u8; ROOM], at: usize, count: usize) {
-    put_byte(bytes, at, (count % 256) as u8);
-    put_byte(bytes, sum(at, 1), (count / 256 % 256) as u8);
-    put_byte(bytes, sum(at, 2), (count / 65536 % 256) as u8);
-    put_byte(bytes, sum(at, 3), (count / 16777216 % 256) as u8);
-}
-
-fn put_byte(bytes: &mut [u8; ROOM], at: usize, byte: u8) {
-    if at < ROOM {
-        bytes[at] = byte;
-    }
-}
-
-fn byte(bytes: &[u8], at: usize) -> u8 {
-    if at < bytes.len() { bytes[at] } else { 0 }
-}
-
-// The places hold the parcel's words and edge numbers, and after them what they held before.
-pub(crate) fn holds(c: Counts, bytes: &[u8], memory: &[u64; 4200], edges: &[u16; 4200]) -> bool {
-    let mut k = 0;
-    while k < 4200 {
-        if !right_word(c, bytes, k, memory[k]) {
-            return false;
+    pub(crate) fn counts(self) -> Counts
+        ensures { (result.code < 65536) × (result.edges < 65536) × (result.data < 65536) }
+    {
+        Counts {
+            code: usize::from(self.code),
+            edges: usize::from(self.edges),
+            data: usize::from(self.words),
         }
-        if !right_number(c, bytes, k, edges[k]) {
-            return false;
+    }
+
+    pub(crate) fn edges_at(self) -> usize
+        ensures { result < 2 ^ 20 }
+    {
+        4 + usize::from(self.code) * 8
+    }
+
+    pub(crate) fn data_at(self) -> usize
+        ensures { (8 ≤ result) × (result < 2 ^ 20) }
+    {
+        8 + usize::from(self.code) * 8 + usize::from(self.edges) * 4
+    }
+
+    pub(crate) fn size(self) -> usize
+        ensures { result < 2 ^ 21 }
+    {
+        12 + usize::from(self.code) * 8 + usize::from(self.edges) * 4 + usize::from(self.words) * 8
+    }
+
+    // A parcel of these counts, its edges rising, its other bytes a pattern. The edges start at 0, 1, 2 and so on, and so they rise.
+    pub(crate) fn laid(self) -> [u8; ROOM] {
+        let mut bytes = array::from_fn(|k| (k % 251) as u8);
+        put(&mut bytes, 0, &u32::from(self.code).to_le_bytes());
+        put(
+            &mut bytes,
+            self.edges_at(),
+            &u32::from(self.edges).to_le_bytes(),
+        );
+        put(
+            &mut bytes,
+            self.data_at(),
+            &u32::from(self.words).to_le_bytes(),
+        );
+        for k in 0..self.edges {
+            put(
+                &mut bytes,
+                self.edges_at() + 4 + usize::from(k) * 4,
+                &k.to_le_bytes(),
+            );
         }
-        k += 1;
+        bytes
     }
-    true
-}
 
-fn right_word(c: Counts, bytes: &[u8], k: usize, word: u64) -> bool {
-    let place = k % 65536 * 8;
-    if k < c.code {
-        is_word(word, bytes, sum(4, place))
-    } else if k < sum(c.code, c.words) {
-        let start = std::num::wrapping_sub_usize(place, c.code % 4096 * 8);
-        is_word(word, bytes, sum(sum(data_at(c), 4), start))
-    } else {
-        word == UNTOUCHED_WORD
-    }
-}
-
-fn right_number(c: Counts, bytes: &[u8], k: usize, number: u16) -> bool {
-    if k < c.edges % 4096 * 2 {
-        let at = sum(sum(edges_at(c), 4), k % 65536 * 2);
-        (number % 256) as u8 == byte(bytes, at) && (number / 256) as u8 == byte(bytes, sum(at, 1))
-    } else {
-        number == UNTOUCHED_NUMBER
-    }
-}
-
-// The word's bytes stand there, low byte first.
-fn is_word(word: u64, bytes: &[u8], at: usize) -> bool {
-    (word % 256) as u8 == byte(bytes, at)
-        && (word / 256 % 256) as u8 == byte(bytes, sum(at, 1))
-        && (word / 65536 % 256) as u8 == byte(bytes, sum(at, 2))
-        && (word / 16777216 % 256) as u8 == byte(bytes, sum(at, 3))
-        && (word / 0x1_0000_0000 % 256) as u8 == byte(bytes, sum(at, 4))
-        && (word / 0x100_0000_0000 % 256) as u8 == byte(bytes, sum(at, 5))
-        && (word / 0x1_0000_0000_0000 % 256) as u8 == byte(bytes, sum(at, 6))
-        && (word / 0x100_0000_0000_0000) as u8 == byte(bytes, sum(at, 7))
-}
-
-pub(crate) fn same_front(bytes: &[u8; ROOM], out: &[u8; ROOM], size: usize) -> bool {
-    let mut k = 0;
-    while k < ROOM {
-        let right = if k < size { bytes[k] } else { UNTOUCHED_BYTE };
-        if out[k] != right {
-            return false;
+    // The same with the last two edges as one edge twice.
+    pub(crate) fn laid_with_repeat(self) -> [u8; ROOM] {
+        let mut bytes = self.laid();
+        let end = self.data_at();
+        if let Some(edge) = bytes
+            .get(end - 8..)
+            .and_then(|rest| rest.first_chunk::<4>())
+            .copied()
+        {
+            put(&mut bytes, end - 4, &edge);
         }
-        k += 1;
+        bytes
     }
-    true
+
+    // The same as laid with a count of 2^32 - 1 at a place.
+    pub(crate) fn laid_with_huge(self, at: usize) -> [u8; ROOM] {
+        let mut bytes = self.laid();
+        put(&mut bytes, at, &u32::MAX.to_le_bytes());
+        bytes
+    }
+
+    // The places hold the parcel's words and edge numbers, and after them what they held before.
+    pub(crate) fn held(self, bytes: &[u8], memory: &[u64], edges: &[u16]) -> bool {
+        let code = section(bytes, 4, usize::from(self.code) * 8)
+            .as_chunks::<8>()
+            .0;
+        let pairs = section(bytes, self.edges_at() + 4, usize::from(self.edges) * 4)
+            .as_chunks::<2>()
+            .0;
+        let data = section(bytes, self.data_at() + 4, usize::from(self.words) * 8)
+            .as_chunks::<8>()
+            .0;
+        let words = code
+            .iter()
+            .chain(data)
+            .map(|word| u64::from_le_bytes(*word))
+            .chain(repeat(UNTOUCHED_WORD));
+        let numbers = pairs
+            .iter()
+            .map(|number| u16::from_le_bytes(*number))
+            .chain(repeat(UNTOUCHED_NUMBER));
+        memory.iter().zip(words).all(|(held, word)| *held == word)
+            && edges
+                .iter()
+                .zip(numbers)
+                .all(|(held, number)| *held == number)
+    }
+}
+
+// So many bytes from a place on.
+fn section(bytes: &[u8], at: usize, size: usize) -> &[u8] {
+    bytes
+        .get(at..)
+        .and_then(|rest| rest.get(..size))
+        .unwrap_or(&[])
+}
+
+fn put(bytes: &mut [u8], at: usize, value: &[u8]) {
+    if let Some(rest) = bytes.get_mut(at..) {
+        for (place, byte) in rest.iter_mut().zip(value) {
+            *place = *byte;
+        }
+    }
+}
+
+// The place begins with these bytes, and after them is as it was.
+pub(crate) fn begins(place: &[u8], bytes: &[u8]) -> bool {
+    let expected = bytes.iter().copied().chain(repeat(UNTOUCHED_BYTE));
+    place.iter().zip(expected).all(|(held, byte)| *held == byte)
 }

@@ -5,7 +5,7 @@ use mathlib.Core.Path.{◌≡◌, sym, ap, ◌∙◌}
 use mathlib.Core.List.{List, ◌++◌}
 use native.Mathlib.Omega.{arith}
 use lib.ListN.{length}
-use Rattle.answers.specs.declared.Verdict.{Verdict}
+use Rattle.std.specs.Prelude.{Ok}
 use Rattle.isa.specs.declared.Technique.{Technique}
 use Rattle.graph.specs.Claim.{jump_of, target_of}
 use Rattle.rising.specs.Rising.{Rising}
@@ -25,7 +25,7 @@ record Sequence (edges : List ℕ) : Type 0 where
   pub narrow : Narrow edges
   pub rises : Rising edges
 
-sequence : (t : Technique) (memory : List ℕ) (n : ℕ) (edges : List ℕ) → verdict_of t memory n edges ≡ Verdict.Accepted → Sequence edges
+sequence : (t : Technique) (memory : List ℕ) (n : ℕ) (edges : List ℕ) → verdict_of t memory n edges ≡ Ok tt → Sequence edges
 sequence t memory n edges e =
     let c = accepted_exactly.sound t memory n edges e in
     let shape = well_shaped (length memory) n (length edges) c.shape in

@@ -1,24 +1,25 @@
 -- The line that `verdict` prints (document 01, "The post program and its table"): "accepted 9 1 0 (code words, edges as listed,
 -- data words). Refused: refused 12 at 7, or refused 3 where no place goes with it; all decimal."
-use Rattle.std.specs.Prelude.{ℕ, ◌/◌, ◌≤◌, List, [], ◌∷◌, ◌++◌, length}
+use Rattle.std.specs.Prelude.{ℕ, ◌/◌, ◌≤◌, List, [], ◌∷◌, ◌++◌, length, Result, Ok, Err}
 use Rattle.answers.specs.declared.Place.{Place}
-use Rattle.answers.specs.declared.Verdict.{Verdict}
+use Rattle.answers.specs.declared.Fault.{Fault}
+use Rattle.answers.specs.Faults.{fault, Verdict}
 use Rattle.answers.specs.Numbers.{refusal_number}
 use Rattle.isa.specs.declared.Technique.{Technique}
 use Rattle.checker.specs.Verdicts.{verdict_of}
-use Rattle.parcel.specs.Parcel.{Content, holds, refused, read_of}
-use Rattle.line.specs.declared.Answer.{Answer}
+use Rattle.parcel.specs.declared.reader.Counts.{Counts}
+use Rattle.parcel.specs.Parcel.{counts, Content, holds, refused, read_of}
 use Rattle.line.specs.Text.{decimal_of, Puts}
 
 -- "reads a parcel .. and checks it plain": what comes of it
-abbrev pub judged : Verdict → ℕ → ℕ → ℕ → Answer
-judged Verdict.Accepted code edges words = Answer.Accepted code edges words
-judged (Verdict.Refused why place) code edges words = Answer.Refused why place
+abbrev pub judged : Verdict → Counts → Result Counts Fault
+judged (Ok _) found = Ok found
+judged (Err f) found = Err f
 
-unfoldable pub answer_of : Content → Answer
+unfoldable pub answer_of : Content → Result Counts Fault
 answer_of (holds code edges words) =
-    judged (verdict_of Technique.Plain (code ++ words) (length code) edges) (length code) (length edges / 2) (length words)
-answer_of (refused why) = Answer.Refused why Place.Nowhere
+    judged (verdict_of Technique.Plain (code ++ words) (length code) edges) (counts (length code) (length edges / 2) (length words))
+answer_of (refused why) = Err (fault why Place.Nowhere)
 
 -- the bytes of "accepted ", "refused ", " at ", a space and a line end
 abbrev pub accepted_text : List ℕ
@@ -41,10 +42,10 @@ place_text (Place.Edge k) = at_text ++ decimal_of k
 place_text (Place.Address a) = at_text ++ decimal_of a
 place_text Place.Nowhere = []
 
-unfoldable pub line_of : Answer → List ℕ
-line_of (Answer.Accepted code edges words) =
-    accepted_text ++ decimal_of code ++ space_text ++ decimal_of edges ++ space_text ++ decimal_of words ++ end_text
-line_of (Answer.Refused why place) = refused_text ++ decimal_of (refusal_number why) ++ place_text place ++ end_text
+unfoldable pub line_of : Result Counts Fault → List ℕ
+line_of (Ok found) =
+    accepted_text ++ decimal_of found.code ++ space_text ++ decimal_of found.edges ++ space_text ++ decimal_of found.«data» ++ end_text
+line_of (Err f) = refused_text ++ decimal_of (refusal_number f.refusal) ++ place_text f.place ++ end_text
 
 -- the line for the bytes of a parcel
 abbrev pub verdict_line : List ℕ → List ℕ

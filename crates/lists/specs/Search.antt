@@ -1,10 +1,14 @@
 -- Searches over the numbers below a bound: the first place that a test holds at, whether there is one, and how many.
-use Rattle.std.specs.Prelude.{ℕ, zero, suc, ◌+◌, Bool, true, false, cond, ◌||◌, ltb}
+use Rattle.std.specs.Prelude.{ℕ, zero, suc, ◌+◌, Bool, true, false, cond, ◌||◌, ltb, Option, Some, None}
 
 -- the lowest number below n that passes the test, or n where none does
 unfoldable pub lowest : (ℕ → Bool) → ℕ → ℕ
 lowest test zero = zero
 lowest test (suc n) = cond (ltb (lowest test n) n) (lowest test n) (cond (test n) n (suc n))
+
+-- the same as an option: the lowest number below n that passes the test, if one does
+abbrev pub first : (ℕ → Bool) → ℕ → Option ℕ
+first test n = cond (ltb (lowest test n) n) (Some (lowest test n)) None
 
 -- some number below n passes the test
 unfoldable pub any : (ℕ → Bool) → ℕ → Bool

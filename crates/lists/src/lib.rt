@@ -1,10 +1,3 @@
-// What every crate above cites: tests joined without a branch, and, in `proofs/`, laws about them.
+// Searches over the numbers below a bound, places that callers lend, and, in `proofs/`, laws about them and about joined tests: what every
+// crate above cites. This crate holds definitions and laws.
 #![tactic(auto)]
-
-ghost use Rattle.std.specs.Prelude.{◌≡◌, ◌&&◌};
-
-pub fn both(a: bool, b: bool) -> bool
-    ensures { result ≡ (a && b) }
-{
-    if a { b } else { false }
-}

@@ -1,43 +1,36 @@
 -- A run with limit 1 is a step: whatever the step's outcome, the run ends with it.
-use Rattle.std.proofs.Common.{◌≡◌, ℕ, Bool, true, false, List, length, refl}
+use Rattle.std.proofs.Common.{◌≡◌, ℕ, Bool, true, false, List, length, refl, ap, Ok, Err}
 use Rattle.answers.specs.Shape.{memory_shaped}
 use Rattle.isa.specs.declared.Technique.{Technique}
 use Rattle.machine.specs.declared.State.{State}
-use Rattle.machine.specs.declared.Outcome.{Outcome}
-use Rattle.machine.specs.declared.Ending.{Ending}
-use Rattle.machine.specs.Numbers.{outcome_number, ending_number}
+use Rattle.machine.specs.Numbers.{Outcome, outcome_number, ending_number}
 use Rattle.machine.specs.Steps.{stepped, step_of, step_memory}
-use Rattle.machine.specs.Runs.{ran, ending_of, if_made, run_from, run_memory_from, run_of, run_memory}
-use Rattle.machine.specs.Inside.{outcome_by}
+use Rattle.machine.specs.Runs.{ran, if_made, run_from, run_memory_from, run_of, run_memory}
 
 pub record OneStep (t : Technique) (n : ℕ) (m : List ℕ) (s : State) : Type 0 where
-  pub answer : stepped (run_of t n 1 m s).state (outcome_by (run_of t n 1 m s).ending) ≡ step_of t n m s
+  pub answer : stepped (run_of t n 1 m s).state (run_of t n 1 m s).ending ≡ step_of t n m s
   pub number : ending_number (run_of t n 1 m s).ending ≡ outcome_number (step_of t n m s).outcome
   pub memory : run_memory t n 1 m s ≡ step_memory t n m s
 
-ends_answer : (o : Outcome) (s : State)
-    → stepped (if_made o (ran s Ending.Spent 1) (ran s (ending_of o) 0)).state (outcome_by (if_made o (ran s Ending.Spent 1) (ran s (ending_of o) 0)).ending)
-    ≡ stepped s o
-ends_answer Outcome.Made s = refl
-ends_answer (Outcome.Stopped stop) s = refl
-ends_answer (Outcome.Refused refusal) s = refl
+ends : (o : Outcome) (s : State) → (if_made o (ran s (Ok tt) 1) (ran s o 0)).ending ≡ o
+ends (Ok _) s = refl
+ends (Err halt) s = refl
 
-ends_number : (o : Outcome) (s : State) → ending_number (if_made o (ran s Ending.Spent 1) (ran s (ending_of o) 0)).ending ≡ outcome_number o
-ends_number Outcome.Made s = refl
-ends_number (Outcome.Stopped stop) s = refl
-ends_number (Outcome.Refused refusal) s = refl
+ends_answer : (o : Outcome) (s : State)
+    → stepped (if_made o (ran s (Ok tt) 1) (ran s o 0)).state (if_made o (ran s (Ok tt) 1) (ran s o 0)).ending ≡ stepped s o
+ends_answer (Ok _) s = refl
+ends_answer (Err halt) s = refl
 
 ends_memory : (o : Outcome) (m : List ℕ) → if_made o m m ≡ m
-ends_memory Outcome.Made m = refl
-ends_memory (Outcome.Stopped stop) m = refl
-ends_memory (Outcome.Refused refusal) m = refl
+ends_memory (Ok _) m = refl
+ends_memory (Err halt) m = refl
 
 shaped_step : (t : Technique) (n : ℕ) (m : List ℕ) (s : State) → memory_shaped (length m) n ≡ true → OneStep t n m s
 unfolding run_of run_memory run_from run_memory_from
 shaped_step t n m s e =
     record {
       answer = rw e (ends_answer (step_of t n m s).outcome (step_of t n m s).state);
-      number = rw e (ends_number (step_of t n m s).outcome (step_of t n m s).state);
+      number = rw e (ap outcome_number (ends (step_of t n m s).outcome (step_of t n m s).state));
       memory = rw e (ends_memory (step_of t n m s).outcome (step_memory t n m s));
     }
 

@@ -1,5 +1,5 @@
 -- The theorems of `specs/Theorems.antt`, and that the number a step gives is the first reason that applies.
-use Rattle.std.proofs.Common.{◌≡◌, ℕ, zero, suc, ◌+◌, ◌^◌, ◌≤◌, Bool, true, false, cond, not, ◌&&◌, ltb, leb, List, length, get_or, refl, ap, ◌∙◌, arith, length-set, lt-ltb}
+use Rattle.std.proofs.Common.{◌≡◌, ℕ, zero, suc, ◌+◌, ◌^◌, ◌≤◌, Bool, true, false, cond, not, ltb, leb, List, length, get_or, refl, ap, ◌∙◌, arith, length-set, lt-ltb, Result, Ok, Err}
 use mathlib.Core.Bool.{and-false}
 use Rattle.lists.proofs.Bools.{clash}
 use Rattle.answers.specs.declared.Refusal.{Refusal}
@@ -12,14 +12,16 @@ use Rattle.addresses.specs.Addresses.{address_of}
 use Rattle.machine.specs.declared.State.{State}
 use Rattle.machine.specs.declared.Stop.{Stop}
 use Rattle.machine.specs.declared.Effect.{Effect}
-use Rattle.machine.specs.declared.Outcome.{Outcome}
+use Rattle.machine.specs.declared.Halt.{Halt}
 use Rattle.machine.specs.declared.Stepped.{Stepped}
-use Rattle.machine.specs.Numbers.{outcome_number, stop_number}
+use Rattle.machine.specs.Numbers.{Outcome, outcome_number, stop_number}
 use Rattle.machine.specs.Steps.{
   fetch_end,
   store_start,
   next_allowed,
   reg_of,
+  sum_of,
+  branch_of,
   load_of,
   store_of,
   effect_of,
@@ -33,78 +35,62 @@ use Rattle.machine.specs.Steps.{
   next_of,
   step_number,
   stepped,
+  storable,
+  next_in,
   Steps,
 }
 use Rattle.machine.specs.Runs.{if_made, run_from, run_memory_from, run_of, run_memory}
 use Rattle.machine.specs.Theorems.{one_more, UnmadeChangesNothing, PastTopStops, StepThenRun}
 use Rattle.machine.proofs.Steps.{past_end}
 
--- numbers: an effect's, and what settling and the tests of loads and stores make of it
-abbrev effect_number : Effect → ℕ
-effect_number (Effect.Go next) = 0
-effect_number (Effect.SetRegister rd value next) = 0
-effect_number (Effect.PutWord address value next) = 0
-effect_number (Effect.Stop stop) = stop_number stop
+-- numbers: of what is about to be done, and what settling and the tests of loads and stores make of it
+abbrev effect_number : Result Effect Stop → ℕ
+effect_number (Ok effect) = 0
+effect_number (Err stop) = stop_number stop
 
-after_number : (s : State) (e : Effect) → outcome_number (after_of s e).outcome ≡ effect_number e
+after_number : (s : State) (e : Result Effect Stop) → outcome_number (after_of s e).outcome ≡ effect_number e
 unfolding after_of
-after_number s (Effect.Go next) = refl
-after_number s (Effect.SetRegister rd value next) = refl
-after_number s (Effect.PutWord address value next) = refl
-after_number s (Effect.Stop stop) = refl
+after_number s (Ok (Effect.Go next)) = refl
+after_number s (Ok (Effect.SetRegister rd value next)) = refl
+after_number s (Ok (Effect.PutWord address value next)) = refl
+after_number s (Err stop) = refl
 
 module _ (t : Technique) (n : ℕ) where
   abbrev settled : ℕ → ℕ
   settled next = cond (not (next_allowed t n next)) 4 0
 
-  go_number : (next : ℕ) → effect_number (settle_of t n (Effect.Go next)) ≡ settled next
+  settled_number : (e : Effect) → effect_number (settle_of t n (Ok e)) ≡ settled (next_in e)
   unfolding settle_of
-  go_number next = go (next_allowed t n next)
+  settled_number e = go (next_allowed t n (next_in e))
     where
-      go : (b : Bool) → effect_number (cond b (Effect.Go next) (Effect.Stop Stop.Next)) ≡ cond (not b) 4 0
-      go true = refl
-      go false = refl
-
-  set_number_lem : (rd v next : ℕ) → effect_number (settle_of t n (Effect.SetRegister rd v next)) ≡ settled next
-  unfolding settle_of
-  set_number_lem rd v next = go (next_allowed t n next)
-    where
-      go : (b : Bool) → effect_number (cond b (Effect.SetRegister rd v next) (Effect.Stop Stop.Next)) ≡ cond (not b) 4 0
-      go true = refl
-      go false = refl
-
-  put_number_lem : (a v next : ℕ) → effect_number (settle_of t n (Effect.PutWord a v next)) ≡ settled next
-  unfolding settle_of
-  put_number_lem a v next = go (next_allowed t n next)
-    where
-      go : (b : Bool) → effect_number (cond b (Effect.PutWord a v next) (Effect.Stop Stop.Next)) ≡ cond (not b) 4 0
+      go : (b : Bool) → effect_number (cond b (Ok e) (Err Stop.Next)) ≡ cond (not b) 4 0
       go true = refl
       go false = refl
 
   -- stop 3 comes before stop 4
-  access_number : (b : Bool) (e : Effect) (next : ℕ) → effect_number (settle_of t n e) ≡ settled next
-      → effect_number (settle_of t n (cond b e (Effect.Stop Stop.Access))) ≡ cond (not b) 3 (settled next)
+  access_number : (b : Bool) (e : Effect)
+      → effect_number (settle_of t n (cond b (Ok e) (Err Stop.Access))) ≡ cond (not b) 3 (settled (next_in e))
   unfolding settle_of
-  access_number true e next h = h
-  access_number false e next h = refl
+  access_number true e = settled_number e
+  access_number false e = refl
 
   effect_number_lem : (m : List ℕ) (s : State) (i : Instr)
       → effect_number (settle_of t n (effect_of t n m s i))
       ≡ cond (is_illegal i) 2 (cond (access_outside t n m s i) 3 (settled (next_of s i)))
   unfolding effect_of load_of store_of settle_of
-  effect_number_lem m s (Instr.Label w) = go_number _
-  effect_number_lem m s (Instr.Add rd rs rt) = set_number_lem _ _ _
-  effect_number_lem m s (Instr.Addi rd rs w) = set_number_lem _ _ _
-  effect_number_lem m s (Instr.Movi rd w) = set_number_lem _ _ _
-  effect_number_lem m s (Instr.Bgt rs rt w) = go_number _
-  effect_number_lem m s (Instr.Jd w) = go_number _
-  effect_number_lem m s (Instr.Jmp rs) = go_number _
+  effect_number_lem m s (Instr.Label w) = settled_number (Effect.Go (s.pc + 1))
+  effect_number_lem m s (Instr.Add rd rs rt) = settled_number (Effect.SetRegister rd (sum_of (reg_of s rs) (reg_of s rt)) (s.pc + 1))
+  effect_number_lem m s (Instr.Addi rd rs w) = settled_number (Effect.SetRegister rd (sum_of (reg_of s rs) w) (s.pc + 1))
+  effect_number_lem m s (Instr.Movi rd w) = settled_number (Effect.SetRegister rd w (s.pc + 1))
+  effect_number_lem m s (Instr.Bgt rs rt w) = settled_number (Effect.Go (branch_of (reg_of s rs) (reg_of s rt) w (s.pc + 1)))
+  effect_number_lem m s (Instr.Jd w) = settled_number (Effect.Go w)
+  effect_number_lem m s (Instr.Jmp rs) = settled_number (Effect.Go (reg_of s rs))
   effect_number_lem m s (Instr.Ld rd rs w) =
       let at = address_of (reg_of s rs) w in
-      access_number (ltb at (length m)) (Effect.SetRegister rd (get_or m at 0) (s.pc + 1)) (s.pc + 1) (set_number_lem _ _ _)
+      access_number (ltb at (length m)) (Effect.SetRegister rd (get_or m at 0) (s.pc + 1))
   effect_number_lem m s (Instr.St rd rs w) =
       let at = address_of (reg_of s rd) w in
-      access_number (leb (store_start t n) at && ltb at (length m)) (Effect.PutWord at (reg_of s rs) (s.pc + 1)) (s.pc + 1) (put_number_lem _ _ _)
+      access_number (storable t n m at) (Effect.PutWord at (reg_of s rs) (s.pc + 1))
   effect_number_lem m s Instr.Illegal = refl
 
   pub step_number_lem : (m : List ℕ) (s : State) → outcome_number (step_of t n m s).outcome ≡ step_number t n m s
@@ -117,7 +103,7 @@ module _ (t : Technique) (n : ℕ) where
       go : (b c : Bool) → memory_shaped (length m) n ≡ b → ltb s.pc (fetch_end t n (length m)) ≡ c
           → outcome_number (step_of t n m s).outcome ≡ step_number t n m s
       go false c eb ec = rw eb
-      go true false eb ec = rw (eb, ec) (after_number s (Effect.Stop Stop.Fetch))
+      go true false eb ec = rw (eb, ec) (after_number s (Err Stop.Fetch))
       go true true eb ec =
           rw (eb, ec) (after_number s (settle_of t n (effect_of t n m s (instr_at m s.pc))) ∙ effect_number_lem m s (instr_at m s.pc))
 
@@ -132,12 +118,12 @@ steps t n m s r m' answer memory =
     }
 
 -- a step keeps the memory's length
-memory_length : (m : List ℕ) (e : Effect) → length (memory_after m e) ≡ length m
+memory_length : (m : List ℕ) (e : Result Effect Stop) → length (memory_after m e) ≡ length m
 unfolding memory_after
-memory_length m (Effect.Go next) = refl
-memory_length m (Effect.SetRegister rd value next) = refl
-memory_length m (Effect.PutWord address value next) = length-set m address value
-memory_length m (Effect.Stop stop) = refl
+memory_length m (Ok (Effect.Go next)) = refl
+memory_length m (Ok (Effect.SetRegister rd value next)) = refl
+memory_length m (Ok (Effect.PutWord address value next)) = length-set m address value
+memory_length m (Err stop) = refl
 
 pub step_length : (t : Technique) (n : ℕ) (m : List ℕ) (s : State) → length (step_memory t n m s) ≡ length m
 unfolding step_memory
@@ -148,20 +134,20 @@ step_length t n m s = go (memory_shaped (length m) n)
     go false = refl
 
 -- an effect that is no stop makes the step
-unmade : (m : List ℕ) (s : State) (e : Effect) → ((after_of s e).outcome ≡ Outcome.Made → ⊥)
+unmade : (m : List ℕ) (s : State) (e : Result Effect Stop) → ((after_of s e).outcome ≡ Ok tt → ⊥)
     → ((after_of s e).state ≡ s) × (memory_after m e ≡ m)
 unfolding after_of memory_after
-unmade m s (Effect.Go next) h = absurd (h refl)
-unmade m s (Effect.SetRegister rd value next) h = absurd (h refl)
-unmade m s (Effect.PutWord address value next) h = absurd (h refl)
-unmade m s (Effect.Stop stop) h = (refl, refl)
+unmade m s (Ok (Effect.Go next)) h = absurd (h refl)
+unmade m s (Ok (Effect.SetRegister rd value next)) h = absurd (h refl)
+unmade m s (Ok (Effect.PutWord address value next)) h = absurd (h refl)
+unmade m s (Err stop) h = (refl, refl)
 
-step_unmade : (t : Technique) (n : ℕ) (m : List ℕ) (s : State) → ((step_of t n m s).outcome ≡ Outcome.Made → ⊥)
+step_unmade : (t : Technique) (n : ℕ) (m : List ℕ) (s : State) → ((step_of t n m s).outcome ≡ Ok tt → ⊥)
     → ((step_of t n m s).state ≡ s) × (step_memory t n m s ≡ m)
 unfolding step_of step_memory
 step_unmade t n m s = go (memory_shaped (length m) n) refl
   where
-    go : (b : Bool) → memory_shaped (length m) n ≡ b → ((step_of t n m s).outcome ≡ Outcome.Made → ⊥)
+    go : (b : Bool) → memory_shaped (length m) n ≡ b → ((step_of t n m s).outcome ≡ Ok tt → ⊥)
         → ((step_of t n m s).state ≡ s) × (step_memory t n m s ≡ m)
     go true e h = rw e (unmade m s (intent_of t n m s) (rw e at h))
     go false e h = rw e (refl, refl)
@@ -186,9 +172,8 @@ past_top_stops t n m s =
 
 -- the count so far is carried along, and no more
 if-made-more : (o : Outcome) (r r' x : _) → r ≡ one_more r' → if_made o r (one_more x) ≡ one_more (if_made o r' x)
-if-made-more Outcome.Made r r' x h = h
-if-made-more (Outcome.Stopped stop) r r' x h = refl
-if-made-more (Outcome.Refused refusal) r r' x h = refl
+if-made-more (Ok _) r r' x h = h
+if-made-more (Err halt) r r' x h = refl
 
 run_count : (t : Technique) (n k : ℕ) (m : List ℕ) (s : State) (count : ℕ)
     → run_from t n k m s (count + 1) ≡ one_more (run_from t n k m s count)
@@ -197,13 +182,12 @@ run_count t n zero m s count = refl
 run_count t n (suc k) m s count =
     if-made-more (step_of t n m s).outcome _ _ _ (run_count t n k (step_memory t n m s) (step_of t n m s).state (count + 1))
 
-if-made-else : {A : Type 0} (o : Outcome) (a x y : A) → ((o ≡ Outcome.Made → ⊥) → x ≡ y) → if_made o a x ≡ if_made o a y
-if-made-else Outcome.Made a x y h = refl
-if-made-else (Outcome.Stopped stop) a x y h = h (λ e. clash (cc))
-if-made-else (Outcome.Refused refusal) a x y h = h (λ e. clash (cc))
+if-made-else : {A : Type 0} (o : Outcome) (a x y : A) → ((o ≡ Ok tt → ⊥) → x ≡ y) → if_made o a x ≡ if_made o a y
+if-made-else (Ok _) a x y h = refl
+if-made-else (Err halt) a x y h = h (λ e. clash (cc))
 
 step_refused : (t : Technique) (n : ℕ) (m : List ℕ) (s : State) → memory_shaped (length m) n ≡ false
-    → step_of t n m s ≡ stepped s (Outcome.Refused Refusal.Shape)
+    → step_of t n m s ≡ stepped s (Err (Halt.Refused Refusal.Shape))
 unfolding step_of
 step_refused t n m s e = rw e
 

@@ -1,12 +1,13 @@
 -- The calls on a lent state: 33 words, r0 to r31 and then the pc. Words after the 33rd are never touched, and a state that is
 -- shorter is refused with 5.
-use Rattle.std.specs.Prelude.{◌≡◌, ℕ, cond, List, [], ◌∷◌, ◌++◌, take, slice_index}
+use Rattle.std.specs.Prelude.{◌≡◌, ℕ, cond, List, [], ◌∷◌, ◌++◌, take, slice_index, Err}
 use Rattle.lists.specs.Places.{shorter, put_over}
 use Rattle.answers.specs.declared.Refusal.{Refusal}
 use Rattle.isa.specs.declared.Technique.{Technique}
 use Rattle.machine.specs.declared.State.{State}
-use Rattle.machine.specs.declared.Ending.{Ending}
+use Rattle.machine.specs.declared.Halt.{Halt}
 use Rattle.machine.specs.declared.Ended.{Ended}
+use Rattle.machine.specs.Numbers.{Outcome}
 use Rattle.machine.specs.Steps.{state_of}
 use Rattle.machine.specs.Runs.{run_of, run_memory}
 
@@ -17,14 +18,14 @@ state_in words = state_of (take 32 words) (slice_index words 32)
 abbrev pub words_of : State → List ℕ
 words_of s = s.regs ++ (s.pc ∷ [])
 
-abbrev pub ended : Ending → ℕ → Ended
+abbrev pub ended : Outcome → ℕ → Ended
 ended ending count = record { ending = ending; count = count }
 
 -- the contract of `run_lent`: its answer r, and the words and the memory that it leaves, as `run` would of the state in the words
 pub record RunsLent (t : Technique) (n limit : ℕ) (words m : List ℕ) (r : Ended) (words' m' : List ℕ) : Type 0 where
   pub answer :
       r
-      ≡ cond (shorter words 33) (ended (Ending.Refused Refusal.PlaceTooShort) 0)
+      ≡ cond (shorter words 33) (ended (Err (Halt.Refused Refusal.PlaceTooShort)) 0)
       (ended (run_of t n limit m (state_in words)).ending (run_of t n limit m (state_in words)).count)
   pub words_after : words' ≡ cond (shorter words 33) words (put_over (words_of (run_of t n limit m (state_in words)).state) words)
   pub memory : m' ≡ cond (shorter words 33) m (run_memory t n limit m (state_in words))

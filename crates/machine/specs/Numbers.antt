@@ -1,9 +1,8 @@
 -- Document 01's numbers: for each stop and each answer, and the first of several reasons that applies.
-use Rattle.std.specs.Prelude.{ℕ, Bool, cond, List, [], ◌∷◌}
+use Rattle.std.specs.Prelude.{ℕ, Bool, cond, List, [], ◌∷◌, Result, Ok, Err}
 use Rattle.answers.specs.Numbers.{refusal_number}
 use Rattle.machine.specs.declared.Stop.{Stop}
-use Rattle.machine.specs.declared.Outcome.{Outcome}
-use Rattle.machine.specs.declared.Ending.{Ending}
+use Rattle.machine.specs.declared.Halt.{Halt}
 
 abbrev pub stop_number : Stop → ℕ
 stop_number Stop.Fetch = 1
@@ -11,16 +10,21 @@ stop_number Stop.Illegal = 2
 stop_number Stop.Access = 3
 stop_number Stop.Next = 4
 
--- the stop's or the refusal's number, and 0 where there is neither: the step is made, or the run is spent
-abbrev pub outcome_number : Outcome → ℕ
-outcome_number Outcome.Made = 0
-outcome_number (Outcome.Stopped stop) = stop_number stop
-outcome_number (Outcome.Refused refusal) = refusal_number refusal
+-- what a step comes to, and how a run ends: `Ok tt`, the step made or the run spent, or why not
+abbrev pub Outcome : Type 0
+Outcome = Result Unit Halt
 
-abbrev pub ending_number : Ending → ℕ
-ending_number Ending.Spent = 0
-ending_number (Ending.Stopped stop) = stop_number stop
-ending_number (Ending.Refused refusal) = refusal_number refusal
+abbrev pub halt_number : Halt → ℕ
+halt_number (Halt.Stopped stop) = stop_number stop
+halt_number (Halt.Refused refusal) = refusal_number refusal
+
+-- the stop's or the refusal's number, and 0 where there is neither
+abbrev pub outcome_number : Outcome → ℕ
+outcome_number (Ok _) = 0
+outcome_number (Err halt) = halt_number halt
+
+abbrev pub ending_number : Outcome → ℕ
+ending_number = outcome_number
 
 -- a number, and whether its reason applies
 pub record Reason : Type 0 where

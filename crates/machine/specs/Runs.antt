@@ -1,36 +1,29 @@
 -- The bounded run (document 01, "Steps"): the figure steps one after another.
-use Rattle.std.specs.Prelude.{◌≡◌, ℕ, zero, suc, ◌+◌, cond, List, length}
+use Rattle.std.specs.Prelude.{◌≡◌, ℕ, zero, suc, ◌+◌, cond, List, length, Ok, Err}
 use Rattle.answers.specs.declared.Refusal.{Refusal}
 use Rattle.answers.specs.Shape.{memory_shaped}
 use Rattle.isa.specs.declared.Technique.{Technique}
 use Rattle.machine.specs.declared.State.{State}
-use Rattle.machine.specs.declared.Outcome.{Outcome}
-use Rattle.machine.specs.declared.Ending.{Ending}
+use Rattle.machine.specs.declared.Halt.{Halt}
 use Rattle.machine.specs.declared.Ran.{Ran}
+use Rattle.machine.specs.Numbers.{Outcome}
 use Rattle.machine.specs.Steps.{step_of, step_memory}
 
-abbrev pub ran : State → Ending → ℕ → Ran
+abbrev pub ran : State → Outcome → ℕ → Ran
 ran s ending count = record { state = s; ending = ending; count = count }
 
--- what a run answers that ends with this step's outcome
-abbrev pub ending_of : Outcome → Ending
-ending_of Outcome.Made = Ending.Spent
-ending_of (Outcome.Stopped stop) = Ending.Stopped stop
-ending_of (Outcome.Refused refusal) = Ending.Refused refusal
-
 abbrev pub if_made : {A : Type 0} → Outcome → A → A → A
-if_made Outcome.Made goesOn ends = goesOn
-if_made (Outcome.Stopped stop) goesOn ends = ends
-if_made (Outcome.Refused refusal) goesOn ends = ends
+if_made (Ok _) goesOn ends = goesOn
+if_made (Err halt) goesOn ends = ends
 
 -- at most k further steps, after count of them: "makes steps until one cannot be made or the limit is reached"; "Having made as
 -- many steps as the limit, it is spent and tries no further one"
 unfoldable pub run_from : Technique → ℕ → ℕ → List ℕ → State → ℕ → Ran
-run_from t n zero m s count = ran s Ending.Spent count
+run_from t n zero m s count = ran s (Ok tt) count
 run_from t n (suc k) m s count =
     if_made (step_of t n m s).outcome
     (run_from t n k (step_memory t n m s) (step_of t n m s).state (count + 1))
-    (ran (step_of t n m s).state (ending_of (step_of t n m s).outcome) count)
+    (ran (step_of t n m s).state (step_of t n m s).outcome count)
 
 unfoldable pub run_memory_from : Technique → ℕ → ℕ → List ℕ → State → List ℕ
 run_memory_from t n zero m s = m
@@ -42,7 +35,7 @@ run_memory_from t n (suc k) m s =
 -- a call of `run`: 6, also at limit 0, or the run
 unfoldable pub run_of : Technique → ℕ → ℕ → List ℕ → State → Ran
 run_of t n limit m s =
-    cond (memory_shaped (length m) n) (run_from t n limit m s 0) (ran s (Ending.Refused Refusal.Shape) 0)
+    cond (memory_shaped (length m) n) (run_from t n limit m s 0) (ran s (Err (Halt.Refused Refusal.Shape)) 0)
 
 unfoldable pub run_memory : Technique → ℕ → ℕ → List ℕ → State → List ℕ
 run_memory t n limit m s = cond (memory_shaped (length m) n) (run_memory_from t n limit m s) m

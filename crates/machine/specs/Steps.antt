@@ -1,5 +1,5 @@
 -- One step (document 01, "Steps"; 000, figures 1 and 3): first what it will do, or why it cannot; then that is carried out.
-use Rattle.std.specs.Prelude.{◌≡◌, ℕ, ◌+◌, ◌%◌, ◌^◌, Bool, true, false, cond, not, ◌&&◌, List, [], ◌∷◌, length, nat_le, nat_lt, slice_index, slice_set}
+use Rattle.std.specs.Prelude.{◌≡◌, ℕ, ◌+◌, ◌%◌, ◌^◌, Bool, true, false, cond, not, ◌&&◌, List, [], ◌∷◌, length, nat_le, nat_lt, slice_index, slice_set, Result, Ok, Err}
 use Rattle.answers.specs.declared.Refusal.{Refusal}
 use Rattle.answers.specs.Shape.{memory_shaped}
 use Rattle.isa.specs.declared.Instr.{Instr}
@@ -8,10 +8,10 @@ use Rattle.isa.specs.Instructions.{instr_at, is_illegal}
 use Rattle.addresses.specs.Addresses.{address_of}
 use Rattle.machine.specs.declared.State.{State}
 use Rattle.machine.specs.declared.Stop.{Stop}
-use Rattle.machine.specs.declared.Outcome.{Outcome}
+use Rattle.machine.specs.declared.Halt.{Halt}
 use Rattle.machine.specs.declared.Stepped.{Stepped}
 use Rattle.machine.specs.declared.Effect.{Effect}
-use Rattle.machine.specs.Numbers.{outcome_number, reason, first_reason}
+use Rattle.machine.specs.Numbers.{Outcome, outcome_number, reason, first_reason}
 
 -- Where the techniques differ. Stop 1: "pc is outside code (plain) or outside memory (relaxed)".
 abbrev pub fetch_end : Technique → ℕ → ℕ → ℕ
@@ -44,63 +44,66 @@ branch_of x y w next = cond (nat_lt y x) w next
 
 -- "a load outside memory" is stop 3, and so is "one of two to the 64 or more" (document 02, K5), as no memory reaches so far: the
 -- address is the exact sum (`address_of`)
-unfoldable pub load_of : List ℕ → ℕ → ℕ → ℕ → Effect
+unfoldable pub load_of : List ℕ → ℕ → ℕ → ℕ → Result Effect Stop
 load_of m rd address next =
-    cond (nat_lt address (length m)) (Effect.SetRegister rd (slice_index m address) next) (Effect.Stop Stop.Access)
+    cond (nat_lt address (length m)) (Ok (Effect.SetRegister rd (slice_index m address) next)) (Err Stop.Access)
 
-unfoldable pub store_of : Technique → ℕ → List ℕ → ℕ → ℕ → ℕ → Effect
-store_of t n m address value next =
-    cond (nat_le (store_start t n) address && nat_lt address (length m)) (Effect.PutWord address value next) (Effect.Stop Stop.Access)
+abbrev pub storable : Technique → ℕ → List ℕ → ℕ → Bool
+storable t n m address = nat_le (store_start t n) address && nat_lt address (length m)
+
+unfoldable pub store_of : Technique → ℕ → List ℕ → ℕ → ℕ → ℕ → Result Effect Stop
+store_of t n m address value next = cond (storable t n m address) (Ok (Effect.PutWord address value next)) (Err Stop.Access)
 
 -- the figures, a line for each instruction
-unfoldable pub effect_of : Technique → ℕ → List ℕ → State → Instr → Effect
-effect_of t n m s (Instr.Label w) = Effect.Go (s.pc + 1)
-effect_of t n m s (Instr.Add rd rs rt) = Effect.SetRegister rd (sum_of (reg_of s rs) (reg_of s rt)) (s.pc + 1)
-effect_of t n m s (Instr.Addi rd rs w) = Effect.SetRegister rd (sum_of (reg_of s rs) w) (s.pc + 1)
-effect_of t n m s (Instr.Movi rd w) = Effect.SetRegister rd w (s.pc + 1)
-effect_of t n m s (Instr.Bgt rs rt w) = Effect.Go (branch_of (reg_of s rs) (reg_of s rt) w (s.pc + 1))
-effect_of t n m s (Instr.Jd w) = Effect.Go w
-effect_of t n m s (Instr.Jmp rs) = Effect.Go (reg_of s rs)
+unfoldable pub effect_of : Technique → ℕ → List ℕ → State → Instr → Result Effect Stop
+effect_of t n m s (Instr.Label w) = Ok (Effect.Go (s.pc + 1))
+effect_of t n m s (Instr.Add rd rs rt) = Ok (Effect.SetRegister rd (sum_of (reg_of s rs) (reg_of s rt)) (s.pc + 1))
+effect_of t n m s (Instr.Addi rd rs w) = Ok (Effect.SetRegister rd (sum_of (reg_of s rs) w) (s.pc + 1))
+effect_of t n m s (Instr.Movi rd w) = Ok (Effect.SetRegister rd w (s.pc + 1))
+effect_of t n m s (Instr.Bgt rs rt w) = Ok (Effect.Go (branch_of (reg_of s rs) (reg_of s rt) w (s.pc + 1)))
+effect_of t n m s (Instr.Jd w) = Ok (Effect.Go w)
+effect_of t n m s (Instr.Jmp rs) = Ok (Effect.Go (reg_of s rs))
 effect_of t n m s (Instr.Ld rd rs w) = load_of m rd (address_of (reg_of s rs) w) (s.pc + 1)
 effect_of t n m s (Instr.St rd rs w) = store_of t n m (address_of (reg_of s rd) w) (reg_of s rs) (s.pc + 1)
-effect_of t n m s Instr.Illegal = Effect.Stop Stop.Illegal
+effect_of t n m s Instr.Illegal = Err Stop.Illegal
 
 -- stop 4, tested last
-unfoldable pub settle_of : Technique → ℕ → Effect → Effect
-settle_of t n (Effect.Go next) = cond (next_allowed t n next) (Effect.Go next) (Effect.Stop Stop.Next)
-settle_of t n (Effect.SetRegister rd value next) =
-    cond (next_allowed t n next) (Effect.SetRegister rd value next) (Effect.Stop Stop.Next)
-settle_of t n (Effect.PutWord address value next) =
-    cond (next_allowed t n next) (Effect.PutWord address value next) (Effect.Stop Stop.Next)
-settle_of t n (Effect.Stop stop) = Effect.Stop stop
+abbrev pub next_in : Effect → ℕ
+next_in (Effect.Go next) = next
+next_in (Effect.SetRegister rd value next) = next
+next_in (Effect.PutWord address value next) = next
+
+unfoldable pub settle_of : Technique → ℕ → Result Effect Stop → Result Effect Stop
+settle_of t n (Ok effect) = cond (next_allowed t n (next_in effect)) (Ok effect) (Err Stop.Next)
+settle_of t n (Err stop) = Err stop
 
 -- what a step does, stop 1 tested first
-unfoldable pub intent_of : Technique → ℕ → List ℕ → State → Effect
+unfoldable pub intent_of : Technique → ℕ → List ℕ → State → Result Effect Stop
 intent_of t n m s =
     cond (nat_lt s.pc (fetch_end t n (length m)))
     (settle_of t n (effect_of t n m s (instr_at m s.pc)))
-    (Effect.Stop Stop.Fetch)
+    (Err Stop.Fetch)
 
 abbrev pub stepped : State → Outcome → Stepped
 stepped s outcome = record { state = s; outcome = outcome }
 
 -- "A step that cannot be made leaves the state and memory unchanged and names the first reason that applies"
-unfoldable pub after_of : State → Effect → Stepped
-after_of s (Effect.Go next) = stepped (state_of s.regs next) Outcome.Made
-after_of s (Effect.SetRegister rd value next) = stepped (state_of (slice_set s.regs rd value) next) Outcome.Made
-after_of s (Effect.PutWord address value next) = stepped (state_of s.regs next) Outcome.Made
-after_of s (Effect.Stop stop) = stepped s (Outcome.Stopped stop)
+unfoldable pub after_of : State → Result Effect Stop → Stepped
+after_of s (Ok (Effect.Go next)) = stepped (state_of s.regs next) (Ok tt)
+after_of s (Ok (Effect.SetRegister rd value next)) = stepped (state_of (slice_set s.regs rd value) next) (Ok tt)
+after_of s (Ok (Effect.PutWord address value next)) = stepped (state_of s.regs next) (Ok tt)
+after_of s (Err stop) = stepped s (Err (Halt.Stopped stop))
 
-unfoldable pub memory_after : List ℕ → Effect → List ℕ
-memory_after m (Effect.Go next) = m
-memory_after m (Effect.SetRegister rd value next) = m
-memory_after m (Effect.PutWord address value next) = slice_set m address value
-memory_after m (Effect.Stop stop) = m
+unfoldable pub memory_after : List ℕ → Result Effect Stop → List ℕ
+memory_after m (Ok (Effect.Go next)) = m
+memory_after m (Ok (Effect.SetRegister rd value next)) = m
+memory_after m (Ok (Effect.PutWord address value next)) = slice_set m address value
+memory_after m (Err stop) = m
 
 -- a call of `step`: 6, or the step
 unfoldable pub step_of : Technique → ℕ → List ℕ → State → Stepped
 step_of t n m s =
-    cond (memory_shaped (length m) n) (after_of s (intent_of t n m s)) (stepped s (Outcome.Refused Refusal.Shape))
+    cond (memory_shaped (length m) n) (after_of s (intent_of t n m s)) (stepped s (Err (Halt.Refused Refusal.Shape)))
 
 unfoldable pub step_memory : Technique → ℕ → List ℕ → State → List ℕ
 step_memory t n m s = cond (memory_shaped (length m) n) (memory_after m (intent_of t n m s)) m
@@ -115,8 +118,7 @@ access_outside t n m s (Instr.Bgt rs rt w) = false
 access_outside t n m s (Instr.Jd w) = false
 access_outside t n m s (Instr.Jmp rs) = false
 access_outside t n m s (Instr.Ld rd rs w) = not (nat_lt (address_of (reg_of s rs) w) (length m))
-access_outside t n m s (Instr.St rd rs w) =
-    not (nat_le (store_start t n) (address_of (reg_of s rd) w) && nat_lt (address_of (reg_of s rd) w) (length m))
+access_outside t n m s (Instr.St rd rs w) = not (storable t n m (address_of (reg_of s rd) w))
 access_outside t n m s Instr.Illegal = false
 
 abbrev pub next_of : State → Instr → ℕ

@@ -4,21 +4,20 @@
 // step is made by `run_over`, over lent registers: its loop is the one place where the compiler puts the whole of a step.
 #![tactic(auto)]
 
-ghost use Rattle.std.specs.Prelude.{◌≡◌, ◌+◌, ◌<◌, true, length, if◌then◌else◌, slice_index};
+ghost use Rattle.std.specs.Prelude.{◌≡◌, ◌<◌, true, cond, length, slice_index, nat_lt};
 ghost use Rattle.answers.specs.Shape.{memory_shaped};
 ghost use Rattle.isa.specs.Theorems.{Registers};
 ghost use Rattle.addresses.specs.Addresses.{address_of};
-ghost use Rattle.machine.specs.Numbers.{stop_number};
-ghost use Rattle.machine.specs.Steps.{fetch_end, store_start, next_allowed, branch_of, state_of, load_of, store_of, effect_of, settle_of, intent_of, Steps};
+ghost use Rattle.machine.specs.Numbers.{stop_number, halt_number};
+ghost use Rattle.machine.specs.Steps.{fetch_end, store_start, next_allowed, storable, state_of, effect_of, settle_of, intent_of, Steps};
 ghost use Rattle.machine.specs.Runs.{Runs};
-ghost use Rattle.machine.specs.Lent.{RunsLent};
-ghost use Rattle.machine.specs.Inside.{InRange, Carried, RanOver, ending_by, outcome_by};
+ghost use Rattle.machine.specs.Lent.{ended, RunsLent};
+ghost use Rattle.machine.specs.Inside.{InRange, Carried, RanOver};
 
-use addresses::Access;
 use answers::Refusal;
 use isa::{Instr, Technique};
 
-#[derive(Clone, Copy)]
+#[derive(Clone, Copy, Debug, PartialEq, Eq)]
 pub struct State {
     pub regs: [u64; 32],
     pub pc: u64,
@@ -28,12 +27,12 @@ impl State {
     pub fn fresh(regs: [u64; 32]) -> Self
         ensures { result ≡ state_of regs 0 }
     {
-        Self { regs: regs, pc: 0 }
+        Self { regs, pc: 0 }
     }
 }
 
 // Why a step cannot be made.
-#[derive(Clone, Copy)]
+#[derive(Clone, Copy, Debug, PartialEq, Eq)]
 pub enum Stop {
     Fetch,
     Illegal,
@@ -41,50 +40,57 @@ pub enum Stop {
     Next,
 }
 
-#[derive(Clone, Copy)]
-pub enum Outcome {
-    Made,
+// The number of a stop.
+impl From<Stop> for u8 {
+    ghost from_gives = { λ stop number. number ≡ stop_number stop };
+
+    fn from(stop: Stop) -> u8 {
+        match stop {
+            Stop::Fetch => 1,
+            Stop::Illegal => 2,
+            Stop::Access => 3,
+            Stop::Next => 4,
+        }
+    }
+}
+
+// Why a step is not made, or a run ends before its limit: it stopped, or the call was refused.
+#[derive(Clone, Copy, Debug, PartialEq, Eq)]
+pub enum Halt {
     Stopped(Stop),
     Refused(Refusal),
 }
 
-#[derive(Clone, Copy)]
+// The number of a stop or a refusal.
+impl From<Halt> for u8 {
+    ghost from_gives = { λ halt number. number ≡ halt_number halt };
+
+    fn from(halt: Halt) -> u8 {
+        match halt {
+            Halt::Stopped(stop) => u8::from(stop),
+            Halt::Refused(refusal) => u8::from(refusal),
+        }
+    }
+}
+
+#[derive(Clone, Copy, Debug, PartialEq, Eq)]
 pub struct Stepped {
     pub state: State,
-    pub outcome: Outcome,
+    pub outcome: Result<(), Halt>,
 }
 
-// Why a run ended.
-#[derive(Clone, Copy)]
-pub enum Ending {
-    Spent,
-    Stopped(Stop),
-    Refused(Refusal),
-}
-
-#[derive(Clone, Copy)]
+#[derive(Clone, Copy, Debug, PartialEq, Eq)]
 pub struct Ran {
     pub state: State,
-    pub ending: Ending,
+    pub ending: Result<(), Halt>,
     pub count: u16,
 }
 
 // What a run on a lent state answers.
-#[derive(Clone, Copy)]
+#[derive(Clone, Copy, Debug, PartialEq, Eq)]
 pub struct Ended {
-    pub ending: Ending,
+    pub ending: Result<(), Halt>,
     pub count: u16,
-}
-
-pub fn stop_number(stop: Stop) -> u8
-    ensures { result ≡ stop_number stop }
-{
-    match stop {
-        Stop::Fetch => 1,
-        Stop::Illegal => 2,
-        Stop::Access => 3,
-        Stop::Next => 4,
-    }
 }
 
 // One step: a run with limit 1. The memory is n words of code and then the data.
@@ -93,12 +99,9 @@ pub fn step(technique: Technique, state: State, memory: &mut [u64], n: usize) ->
     ensures { Steps technique n memory.old state result memory.new }
 {
     let ran = run(technique, state, memory, n, 1);
-    let after = ran.state;
-    let ending = ran.ending;
-    let outcome = outcome_by(ending);
     Stepped {
-        state: after,
-        outcome: outcome,
+        state: ran.state,
+        outcome: ran.ending,
     }
 }
 
@@ -107,15 +110,11 @@ pub fn run(technique: Technique, state: State, memory: &mut [u64], n: usize, lim
     ensures { Runs technique n limit memory.old state result memory.new }
 {
     let mut regs = state.regs;
-    let ran = run_over(technique, &mut regs, state.pc, memory, n, limit);
-    let ending = ran.ending;
+    let (pc, ended) = run_over(technique, &mut regs, state.pc, memory, n, limit);
     Ran {
-        state: State {
-            regs: regs,
-            pc: ran.pc,
-        },
-        ending: ending,
-        count: ran.count,
+        state: State { regs, pc },
+        ending: ended.ending,
+        count: ended.count,
     }
 }
 
@@ -130,315 +129,196 @@ pub fn run_lent(
     ensures { RunsLent technique n limit state.old memory.old result state.new memory.new }
 {
     if state.len() < 33 {
-        return Ended {
-            ending: Ending::Refused(Refusal::PlaceTooShort),
-            count: 0,
-        };
+        return refused(Refusal::PlaceTooShort);
     }
     let pc = state[32];
-    let ran = run_over(technique, &mut state[..32], pc, memory, n, limit);
-    let ending = ran.ending;
-    state[32] = ran.pc;
+    let (regs, rest) = state.split_first_chunk_mut::<32>().unwrap();
+    let (pc, ended) = run_over(technique, regs, pc, memory, n, limit);
+    rest[0] = pc;
+    ended
+}
+
+fn refused(refusal: Refusal) -> Ended
+    ensures { result ≡ ended (Err (Halt.Refused refusal)) 0 }
+{
     Ended {
-        ending: ending,
-        count: ran.count,
+        ending: Err(Halt::Refused(refusal)),
+        count: 0,
     }
 }
 
-// What a step is about to do: the next pc, with a register or a word of memory to write, or nothing at all.
+// What a step that can be made is about to do: the next pc, and with it a register or a word of memory to write.
 #[derive(Clone, Copy)]
 pub enum Effect {
     Go(u64),
     SetRegister(u8, u64, u64),
     PutWord(u64, u64, u64),
-    Stop(Stop),
 }
 
-// Where a step goes, or why it cannot be made.
-#[derive(Clone, Copy)]
-enum Moved {
-    To(u64),
-    Stopped(Stop),
-}
-
-// Where a run stands at its end, and why it ended.
-#[derive(Clone, Copy)]
-struct RanTo {
-    pc: u64,
-    ending: Ending,
-    count: u16,
-}
-
-// The run over lent registers.
-#[tactic(auto, using(crate::proofs::Steps::turn_made, crate::proofs::Steps::turn_stopped, crate::proofs::Steps::run_spent), unfolding(crate::specs::Runs::run_of, crate::specs::Runs::run_memory))]
+// The run over lent registers: where it stands at its end, and what it answers.
+#[tactic(auto, using(crate::proofs::Steps::run_spent), unfolding(crate::specs::Runs::run_of, crate::specs::Runs::run_memory))]
 fn run_over(
     technique: Technique,
-    regs: &mut [u64],
+    regs: &mut [u64; 32],
     start: u64,
     memory: &mut [u64],
     n: usize,
     limit: u16,
-) -> RanTo
-    requires { length regs.old ≡ 32 }
-    ensures { RanOver technique n limit regs.old start memory.old result regs.new memory.new }
+) -> (u64, Ended)
+    ensures { RanOver technique n limit regs.old start memory.old result.0 result.1 regs.new memory.new }
 {
-    if answers::memory_shaped(memory.len(), n) {
-        let mut pc = start;
-        let mut count: u16 = 0;
-        while count < limit {
-            let moved = advance(technique, memory, n, regs, pc);
-            let Moved::To(next) = moved else {
-                let ending = ending_by(moved);
-                return RanTo {
-                    pc: pc,
-                    ending: ending,
-                    count: count,
-                };
-            };
-            pc = next;
-            count += 1;
+    if !answers::memory_shaped(memory.len(), n) {
+        return (start, refused(Refusal::Shape));
+    }
+    let figure = Figure { technique, n };
+    let mut pc = start;
+    for count in 0..limit {
+        match figure.advance(memory, regs, pc) {
+            Ok(next) => pc = next,
+            Err(stop) => {
+                let ending = Err(Halt::Stopped(stop));
+                return (pc, Ended { ending, count });
+            }
         }
-        return RanTo {
-            pc: pc,
-            ending: Ending::Spent,
-            count: count,
-        };
     }
-    RanTo {
-        pc: start,
-        ending: Ending::Refused(Refusal::Shape),
-        count: 0,
+    let spent = Ended {
+        ending: Ok(()),
+        count: limit,
+    };
+    (pc, spent)
+}
+
+// The figure that steps follow: which technique's, over how many words of code.
+#[derive(Clone, Copy)]
+struct Figure {
+    technique: Technique,
+    n: usize,
+}
+
+impl Figure {
+    // One step over lent registers: the next pc, or why it cannot be made.
+    #[tactic(auto, using(crate::proofs::Steps::intent_in), unfolding(crate::specs::Steps::memory_after, crate::specs::Inside::moved_of, crate::specs::Inside::registers_after))]
+    fn advance(self, memory: &mut [u64], regs: &mut [u64; 32], pc: u64) -> Result<u64, Stop>
+        requires { memory_shaped (length memory.old) self.n ≡ true }
+        ensures { Carried (intent_of self.technique self.n memory.old (state_of regs.old pc)) regs.old memory.old result regs.new memory.new }
+    {
+        let effect = self.intent(memory, regs, pc)?;
+        Ok(perform(memory, regs, effect))
+    }
+
+    // What the step is about to do, or why it cannot be made.
+    #[tactic(auto, using(answers::proofs::Shape::shaped, crate::proofs::Steps::fetch_within, isa::proofs::Words::decode_registers), unfolding(crate::specs::Steps::intent_of))]
+    fn intent(self, memory: &[u64], regs: &[u64; 32], pc: u64) -> Result<Effect, Stop>
+        requires { memory_shaped (length memory.now) self.n ≡ true }
+        ensures { result ≡ intent_of self.technique self.n memory.now (state_of regs.now pc) }
+    {
+        let at = pc as usize;
+        if at < self.fetch_end(memory.len()) {
+            return self.effect(memory, regs, pc, isa::decode(memory[at]));
+        }
+        Err(Stop::Fetch)
+    }
+
+    // What the instruction does, or why it cannot. Each arm tests its own next pc: that is faster than one test after the match.
+    #[tactic(auto, unfolding(crate::specs::Steps::settle_of, crate::specs::Steps::effect_of, crate::specs::Steps::load_of, crate::specs::Steps::store_of))]
+    fn effect(self, memory: &[u64], regs: &[u64; 32], pc: u64, i: Instr) -> Result<Effect, Stop>
+        requires { Registers i × (pc < 4096) }
+        ensures { result ≡ settle_of self.technique self.n (effect_of self.technique self.n memory.now (state_of regs.now pc) i) }
+    {
+        let next = pc + 1;
+        match i {
+            Instr::Label(_) => Ok(Effect::Go(self.to(next)?)),
+            Instr::Add(rd, rs, rt) => {
+                let sum = regs[rs as usize].wrapping_add(regs[rt as usize]);
+                Ok(Effect::SetRegister(rd, sum, self.to(next)?))
+            }
+            Instr::Addi(rd, rs, w) => {
+                let sum = regs[rs as usize].wrapping_add(u64::from(w));
+                Ok(Effect::SetRegister(rd, sum, self.to(next)?))
+            }
+            Instr::Movi(rd, w) => Ok(Effect::SetRegister(rd, u64::from(w), self.to(next)?)),
+            Instr::Bgt(rs, rt, w) => {
+                let taken = regs[rt as usize] < regs[rs as usize];
+                let next = if taken { u64::from(w) } else { next };
+                Ok(Effect::Go(self.to(next)?))
+            }
+            Instr::Jd(w) => Ok(Effect::Go(self.to(u64::from(w))?)),
+            Instr::Jmp(rs) => Ok(Effect::Go(self.to(regs[rs as usize])?)),
+            Instr::Ld(rd, rs, w) => {
+                let word = loaded(memory, regs[rs as usize], w)?;
+                Ok(Effect::SetRegister(rd, word, self.to(next)?))
+            }
+            Instr::St(rd, rs, w) => {
+                let address = self.stored(memory, regs[rd as usize], w)?;
+                Ok(Effect::PutWord(address, regs[rs as usize], self.to(next)?))
+            }
+            Instr::Illegal => Err(Stop::Illegal),
+        }
+    }
+
+    fn fetch_end(self, len: usize) -> usize
+        ensures { result ≡ fetch_end self.technique self.n len }
+    {
+        match self.technique {
+            Technique::Plain => self.n,
+            Technique::MemoryGuards => len,
+        }
+    }
+
+    fn store_start(self) -> usize
+        ensures { result ≡ store_start self.technique self.n }
+    {
+        match self.technique {
+            Technique::Plain => self.n,
+            Technique::MemoryGuards => 0,
+        }
+    }
+
+    // The address that a store writes to.
+    fn stored(self, memory: &[u64], base: u64, w: u32) -> Result<u64, Stop>
+        ensures { result ≡ cond (storable self.technique self.n memory.now (address_of base w)) (Ok (address_of base w)) (Err Stop.Access) }
+    {
+        let address = addresses::address(base, w).ok_or(Stop::Access)?;
+        if (self.store_start()..memory.len()).contains(&(address as usize)) {
+            return Ok(address);
+        }
+        Err(Stop::Access)
+    }
+
+    // The next pc, if a step may go there.
+    fn to(self, next: u64) -> Result<u64, Stop>
+        ensures { result ≡ cond (next_allowed self.technique self.n next) (Ok next) (Err Stop.Next) }
+    {
+        match self.technique {
+            Technique::Plain if self.n as u64 <= next => Err(Stop::Next),
+            _ => Ok(next),
+        }
     }
 }
 
-// One step over lent registers.
-#[tactic(auto, using(crate::proofs::Steps::intent_in))]
-fn advance(technique: Technique, memory: &mut [u64], n: usize, regs: &mut [u64], pc: u64) -> Moved
-    requires { (memory_shaped (length memory.old) n ≡ true) × (length regs.old ≡ 32) }
-    ensures { Carried (intent_of technique n memory.old (state_of regs.old pc)) regs.old memory.old result regs.new memory.new }
+// The word that a load reads.
+fn loaded(memory: &[u64], base: u64, w: u32) -> Result<u64, Stop>
+    ensures { result ≡ cond (nat_lt (address_of base w) (length memory.now)) (Ok (slice_index memory.now (address_of base w))) (Err Stop.Access) }
 {
-    let effect = intent(technique, &memory[..], n, &regs[..], pc);
-    perform(memory, regs, effect)
+    let address = addresses::address(base, w).ok_or(Stop::Access)?;
+    memory.get(address as usize).copied().ok_or(Stop::Access)
 }
 
+// The effect carried out on lent registers and memory: the next pc.
 #[tactic(auto, unfolding(crate::specs::Steps::memory_after, crate::specs::Inside::moved_of, crate::specs::Inside::registers_after))]
-fn perform(memory: &mut [u64], regs: &mut [u64], effect: Effect) -> Moved
-    requires { InRange (length memory.old) effect × (length regs.old ≡ 32) }
-    ensures { Carried effect regs.old memory.old result regs.new memory.new }
+fn perform(memory: &mut [u64], regs: &mut [u64; 32], effect: Effect) -> u64
+    requires { InRange (length memory.old) effect }
+    ensures { Carried (Ok effect) regs.old memory.old (Ok result) regs.new memory.new }
 {
     match effect {
-        Effect::Go(next) => Moved::To(next),
+        Effect::Go(next) => next,
         Effect::SetRegister(rd, value, next) => {
-            let i = rd as usize;
-            regs[i] = value;
-            Moved::To(next)
+            regs[rd as usize] = value;
+            next
         }
         Effect::PutWord(address, value, next) => {
-            let at = address as usize;
-            memory[at] = value;
-            Moved::To(next)
+            memory[address as usize] = value;
+            next
         }
-        Effect::Stop(stop) => Moved::Stopped(stop),
     }
-}
-
-#[tactic(auto, using(answers::proofs::Shape::shaped, crate::proofs::Steps::fetch_within, isa::proofs::Words::decode_registers), unfolding(crate::specs::Steps::intent_of))]
-fn intent(technique: Technique, memory: &[u64], n: usize, regs: &[u64], pc: u64) -> Effect
-    requires { (memory_shaped (length memory.now) n ≡ true) × (length regs.now ≡ 32) }
-    ensures { result ≡ intent_of technique n memory.now (state_of regs.now pc) }
-{
-    let at = pc as usize;
-    if at < fetch_end(technique, n, memory.len()) {
-        let i = isa::decode(memory[at]);
-        return effect_of(technique, memory, n, regs, pc, i);
-    }
-    Effect::Stop(Stop::Fetch)
-}
-
-// What the instruction does, or why it cannot. Each arm tests its own next pc: that is faster than one test after the match.
-#[tactic(auto, unfolding(crate::specs::Steps::settle_of, crate::specs::Steps::effect_of))]
-fn effect_of(
-    technique: Technique,
-    memory: &[u64],
-    n: usize,
-    regs: &[u64],
-    pc: u64,
-    i: Instr,
-) -> Effect
-    requires { Registers i × (pc < 4096) × (length regs.now ≡ 32) }
-    ensures { result ≡ settle_of technique n (effect_of technique n memory.now (state_of regs.now pc) i) }
-{
-    let next = pc + 1;
-    match i {
-        Instr::Label(_) => go(technique, n, next),
-        Instr::Add(rd, rs, rt) => set_register(
-            technique,
-            n,
-            rd,
-            std::num::wrapping_add_u64(reg(regs, rs), reg(regs, rt)),
-            next,
-        ),
-        Instr::Addi(rd, rs, w) => set_register(
-            technique,
-            n,
-            rd,
-            std::num::wrapping_add_u64(reg(regs, rs), wide(w)),
-            next,
-        ),
-        Instr::Movi(rd, w) => set_register(technique, n, rd, wide(w), next),
-        Instr::Bgt(rs, rt, w) => go(
-            technique,
-            n,
-            branch(reg(regs, rs), reg(regs, rt), wide(w), next),
-        ),
-        Instr::Jd(w) => go(technique, n, wide(w)),
-        Instr::Jmp(rs) => go(technique, n, reg(regs, rs)),
-        Instr::Ld(rd, rs, w) => load(technique, memory, n, rd, reg(regs, rs), w, next),
-        Instr::St(rd, rs, w) => store(technique, memory, n, reg(regs, rd), w, reg(regs, rs), next),
-        Instr::Illegal => Effect::Stop(Stop::Illegal),
-    }
-}
-
-fn fetch_end(technique: Technique, n: usize, len: usize) -> usize
-    ensures { result ≡ fetch_end technique n len }
-{
-    match technique {
-        Technique::Plain => n,
-        Technique::MemoryGuards => len,
-    }
-}
-
-fn store_start(technique: Technique, n: usize) -> usize
-    ensures { result ≡ store_start technique n }
-{
-    match technique {
-        Technique::Plain => n,
-        Technique::MemoryGuards => 0,
-    }
-}
-
-fn next_allowed(technique: Technique, n: usize, next: u64) -> bool
-    ensures { result ≡ next_allowed technique n next }
-{
-    match technique {
-        Technique::Plain => next < n as u64,
-        Technique::MemoryGuards => true,
-    }
-}
-
-fn branch(x: u64, y: u64, w: u64, next: u64) -> u64
-    ensures { result ≡ branch_of x y w next }
-{
-    if y < x { w } else { next }
-}
-
-#[tactic(auto, unfolding(crate::specs::Steps::settle_of))]
-fn go(technique: Technique, n: usize, next: u64) -> Effect
-    ensures { result ≡ settle_of technique n (Effect.Go next) }
-{
-    effect_if(next_allowed(technique, n, next), Effect::Go(next))
-}
-
-#[tactic(auto, unfolding(crate::specs::Steps::settle_of))]
-fn set_register(technique: Technique, n: usize, rd: u8, value: u64, next: u64) -> Effect
-    ensures { result ≡ settle_of technique n (Effect.SetRegister rd value next) }
-{
-    effect_if(
-        next_allowed(technique, n, next),
-        Effect::SetRegister(rd, value, next),
-    )
-}
-
-#[tactic(auto, using(addresses::proofs::Addresses::at_exact, addresses::proofs::Addresses::past_top, crate::proofs::Steps::past_end), unfolding(crate::specs::Steps::settle_of, crate::specs::Steps::load_of))]
-fn load(
-    technique: Technique,
-    memory: &[u64],
-    n: usize,
-    rd: u8,
-    base: u64,
-    w: u32,
-    next: u64,
-) -> Effect
-    ensures { result ≡ settle_of technique n (load_of memory.now rd (address_of base w) next) }
-{
-    let Access::At(address) = addresses::address(base, w) else {
-        return Effect::Stop(Stop::Access);
-    };
-    let at = address as usize;
-    if at < memory.len() {
-        return set_register(technique, n, rd, memory[at], next);
-    }
-    Effect::Stop(Stop::Access)
-}
-
-#[tactic(auto, using(addresses::proofs::Addresses::at_exact, addresses::proofs::Addresses::past_top, crate::proofs::Steps::past_end), unfolding(crate::specs::Steps::settle_of, crate::specs::Steps::store_of))]
-fn store(
-    technique: Technique,
-    memory: &[u64],
-    n: usize,
-    base: u64,
-    w: u32,
-    value: u64,
-    next: u64,
-) -> Effect
-    ensures { result ≡ settle_of technique n (store_of technique n memory.now (address_of base w) value next) }
-{
-    let Access::At(address) = addresses::address(base, w) else {
-        return Effect::Stop(Stop::Access);
-    };
-    let at = address as usize;
-    if at < store_start(technique, n) {
-        return Effect::Stop(Stop::Access);
-    }
-    if at < memory.len() {
-        return effect_if(
-            next_allowed(technique, n, next),
-            Effect::PutWord(address, value, next),
-        );
-    }
-    Effect::Stop(Stop::Access)
-}
-
-fn effect_if(allowed: bool, effect: Effect) -> Effect
-    ensures { result ≡ (if allowed then effect else Effect.Stop Stop.Next) }
-{
-    if allowed {
-        effect
-    } else {
-        Effect::Stop(Stop::Next)
-    }
-}
-
-fn ending_by(moved: Moved) -> Ending
-    ensures { result ≡ ending_by moved }
-{
-    match moved {
-        Moved::To(_) => Ending::Spent,
-        Moved::Stopped(stop) => Ending::Stopped(stop),
-    }
-}
-
-// What a step came to, by the run of limit 1 that made it.
-fn outcome_by(ending: Ending) -> Outcome
-    ensures { result ≡ outcome_by ending }
-{
-    match ending {
-        Ending::Spent => Outcome::Made,
-        Ending::Stopped(stop) => Outcome::Stopped(stop),
-        Ending::Refused(refusal) => Outcome::Refused(refusal),
-    }
-}
-
-fn reg(regs: &[u64], r: u8) -> u64
-    requires { (r < 32) × (length regs.now ≡ 32) }
-    ensures { result ≡ slice_index regs.now r }
-{
-    let i = r as usize;
-    regs[i]
-}
-
-fn wide(x: u32) -> u64
-    ensures { result ≡ x }
-{
-    x as u64
 }

@@ -4,29 +4,29 @@ use mathlib.Core.Path.{◌≡◌, refl, ap, ◌∙◌}
 use mathlib.Core.Bool.{Bool, true, false, ◌||◌}
 use mathlib.Core.List.{List}
 use Rattle.lists.specs.Places.{shorter}
-use Rattle.answers.specs.declared.Verdict.{Verdict}
-use Rattle.report.specs.declared.Answer.{Answer}
+use Rattle.std.specs.Prelude.{Ok, Err}
+use Rattle.report.specs.Reports.{Report}
 use Rattle.totals.specs.declared.Added.{Added}
 use Rattle.totals.specs.Totals.{add_report}
-use Rattle.capi.specs.Checks.{verdict_number}
+use Rattle.capi.specs.Checks.{answer_number}
 use Rattle.owner.specs.Reports.{figures_after, totals_in, totals_after, added_to, ReportCall, AddCall}
 use Rattle.owner.specs.Theorems.{RefusedReportsChangeNothing}
 
 report_unchanged :
-    (report : Answer) (figures place : List ℕ) (r : ℕ) (figures' place' : List ℕ) → ReportCall report figures place r figures' place'
+    (report : Report) (figures place : List ℕ) (r : ℕ) (figures' place' : List ℕ) → ReportCall report figures place r figures' place'
     → (r ≡ 0 → ⊥) → figures' ≡ figures
 report_unchanged report figures place r figures' place' call refused = go (shorter figures 14 || shorter place 2) refl
   where
-    by : (v : Verdict) → r ≡ verdict_number v → figures' ≡ figures_after v report.figures figures → figures' ≡ figures
-    by Verdict.Accepted e f = absurd (refused e)
-    by (Verdict.Refused why at) e f = f
+    by : (x : Report) → r ≡ answer_number x → figures' ≡ figures_after x figures → figures' ≡ figures
+    by (Ok found) e f = absurd (refused e)
+    by (Err x) e f = f
 
     go : (b : Bool) → (shorter figures 14 || shorter place 2) ≡ b → figures' ≡ figures
     go true e = rw e at call.figures_after
-    go false e = by report.verdict (rw e at call.answer) (rw e at call.figures_after)
+    go false e = by report (rw e at call.answer) (rw e at call.figures_after)
 
 add_unchanged :
-    (report : Answer) (words place : List ℕ) (r : ℕ) (words' place' : List ℕ) → AddCall report words place r words' place'
+    (report : Report) (words place : List ℕ) (r : ℕ) (words' place' : List ℕ) → AddCall report words place r words' place'
     → added_to words report ≡ Added.Unchanged → words' ≡ words
 add_unchanged report words place r words' place' call full = go (shorter words 6 || shorter place 2) refl
   where

@@ -12,15 +12,15 @@ use Rattle.lists.proofs.Bools.{clash}
 use Rattle.answers.specs.Shape.{call_shaped}
 use Rattle.answers.specs.declared.Refusal.{Refusal}
 use Rattle.answers.specs.declared.Place.{Place}
+use Rattle.answers.specs.Faults.{fault}
+use Rattle.std.specs.Prelude.{Ok, Err}
 use Rattle.parcel.specs.Bytes.{numbers_of}
 use Rattle.lists.specs.Places.{shorter, put_over}
 use Rattle.graph.specs.Claim.{edge_count}
 use Rattle.rising.specs.Rising.{first_not_rising, Rising}
 use Rattle.rising.proofs.Rising.{first_found, none_rising, rising_none}
-use Rattle.parcel.specs.Parcel.{Content, holds, read_of, memory_in, edges_in, after_write, parcel_of, WrittenSo}
+use Rattle.parcel.specs.Parcel.{Written, counts, Content, holds, read_of, memory_in, edges_in, after_write, parcel_of, WrittenSo}
 use Rattle.parcel.specs.Theorems.{WrittenBack, NotWritten, WrittenWhereRising, ReadAfterWrite, ReadThenWritten, WriteAfterRead}
-use Rattle.parcel.specs.declared.Read.{Read}
-use Rattle.parcel.specs.declared.Written.{Written}
 use Rattle.parcel.proofs.Runs.{length_numbers}
 use Rattle.parcel.proofs.ReaderAnswers.{whole, counts_read}
 use Rattle.parcel.proofs.WriterAnswers.{well_shaped, bytes_planned}
@@ -28,7 +28,7 @@ use Rattle.parcel.proofs.RoundTrips.{read_written, written_read}
 
 -- bytes were written: numbers 6, 18 and 5 let the call through, and they are as many as was answered
 bytes_written : (shaped falls short : Bool) (k size : ℕ) (at : Place)
-    → Written.Bytes k ≡ cond shaped (cond falls (Written.Refused Refusal.EdgeNotRising at) (cond short (Written.Refused Refusal.PlaceTooShort Place.Nowhere) (Written.Bytes size))) (Written.Refused Refusal.Shape Place.Nowhere)
+    → Ok k ≡ cond shaped (cond falls (Err (fault Refusal.EdgeNotRising at)) (cond short (Err (fault Refusal.PlaceTooShort Place.Nowhere)) (Ok size))) (Err (fault Refusal.Shape Place.Nowhere))
     → (shaped ≡ true) × (falls ≡ false) × (k ≡ size)
 bytes_written true falls short k size at h = let p = bytes_planned falls short k size at h in (refl, p.0, p.2)
 bytes_written false falls short k size at h = clash (cc)
@@ -39,20 +39,20 @@ module _ (w : ℕ) (m : List ℕ) (n : ℕ) (g p p' : List ℕ) where
   abbrev parcel_bytes : List ℕ
   parcel_bytes = parcel_of w (take n m) g (drop n m)
 
-  passed : (k : ℕ) → WrittenSo w m n g p (Written.Bytes k) p'
+  passed : (k : ℕ) → WrittenSo w m n g p (Ok k) p'
       → (call_shaped (length m) n (length g) ≡ true) × (ltb (first_not_rising g) (edge_count g) ≡ false) × (k ≡ length parcel_bytes)
   passed k so =
       bytes_written (call_shaped (length m) n (length g)) (ltb (first_not_rising g) (edge_count g)) (shorter p (length parcel_bytes)) k
       (length parcel_bytes) (Place.Edge (first_not_rising g)) so.answers
 
-  only_rising : (k : ℕ) → WrittenSo w m n g p (Written.Bytes k) p' → Rising g
+  only_rising : (k : ℕ) → WrittenSo w m n g p (Ok k) p' → Rising g
   only_rising k so = none_rising g (ltb-false (first_not_rising g) (edge_count g) (passed k so).1)
 
   module _ (answer : Written) (so : WrittenSo w m n g p answer p') (shape : call_shaped (length m) n (length g) ≡ true) where
     rising_written : length parcel_bytes ≤ length p → Rising g → WrittenBack parcel_bytes p answer p'
     rising_written room r =
         let rise = le-ltb (first_not_rising g) (edge_count g) (omega (arith, rising_none g r)) in
-        let size : answer ≡ Written.Bytes (length parcel_bytes) =
+        let size : answer ≡ Ok (length parcel_bytes) =
         so.answers ∙ simp (shape, rise, le-ltb (length p) (length parcel_bytes) room) in
         record { size = size; bytes = so.bytes ∙ ap (λ (a : Written). after_write a parcel_bytes p) size }
 
@@ -61,7 +61,7 @@ module _ (w : ℕ) (m : List ℕ) (n : ℕ) (g p p' : List ℕ) where
       where
         go : (b : Bool) → ltb (first_not_rising g) (edge_count g) ≡ b → NotWritten g p answer p'
         go true e =
-            let refused : answer ≡ Written.Refused Refusal.EdgeNotRising (Place.Edge (first_not_rising g)) = so.answers ∙ rw (shape, e) in
+            let refused : answer ≡ Err (fault Refusal.EdgeNotRising (Place.Edge (first_not_rising g))) = so.answers ∙ rw (shape, e) in
             record {
               edge = first_not_rising g;
               first = first_found g (ltb-true (first_not_rising g) (edge_count g) e);
@@ -90,7 +90,7 @@ read_after_write w m n g s s' k so m-below g-below m₀ g₀ m₁ g₁ answer r 
     ap (read_of w) parcel ∙ read_written w m n g (record { shape = a.0; words = m-below; numbers = g-below }) in
     let n_long : length (take n m) ≡ n = length-take-le n m f.within in
     let enough : n + (length m - n) ≤ length m₀ = omega arith in
-    let counts : answer ≡ Read.Counts n (length g / 2) (length m - n) =
+    let counts : answer ≡ Ok (counts n (length g / 2) (length m - n)) =
     r.answers ∙ simp (holds_it, n_long, length-drop, le-ltb (length m₀) (n + (length m - n)) enough, le-ltb (length g₀) (length g) g_room) in
     record {
       counts = counts;

@@ -13,7 +13,7 @@ use Rattle.lists.proofs.Bools.{clash}
 use Rattle.answers.specs.declared.Refusal.{Refusal}
 use Rattle.parcel.specs.Bytes.{number_of, numbers_of}
 use Rattle.parcel.specs.Parcel.{Content, holds, refused, count_of, after_count, section_from, at_end, read_of}
-use Rattle.parcel.specs.declared.reader.Count.{Count}
+use Rattle.std.specs.Prelude.{Result, Ok, Err}
 
 -- ---- a count
 
@@ -25,7 +25,7 @@ pub record Counted (size low : ℕ) (s : List ℕ) (k : ℕ) : Type 0 where
   pub room : 4 + k * size ≤ length s
 
 -- a test that does not refuse
-passed : (b : Bool) (why : Refusal) (x : Count) {k : ℕ} → cond b (Count.Refused why) x ≡ Count.Items k → (b ≡ false) × (x ≡ Count.Items k)
+passed : (b : Bool) (why : Refusal) (x : Result ℕ Refusal) {k : ℕ} → cond b (Err why) x ≡ Ok k → (b ≡ false) × (x ≡ Ok k)
 passed true why x h = clash (cc)
 passed false why x h = (refl, h)
 
@@ -33,16 +33,16 @@ pub neither : (a b : Bool) → (a || b) ≡ false → (a ≡ false) × (b ≡ fa
 neither true b h = clash (cc)
 neither false b h = (refl, h)
 
-pub counted : (size low : ℕ) (s : List ℕ) {k : ℕ} → count_of size low s ≡ Count.Items k → Counted size low s k
+pub counted : (size low : ℕ) (s : List ℕ) {k : ℕ} → count_of size low s ≡ Ok k → Counted size low s k
 unfolding count_of
 counted size low s {k} h =
     let x = number_of 4 s in
-    let items = cond (ltb (length s - 4) (x * size)) (Count.Refused Refusal.ItemsMissing) (Count.Items x) in
-    let limits = cond (ltb x low || ltb 2048 x) (Count.Refused Refusal.CountLimit) items in
+    let items = cond (ltb (length s - 4) (x * size)) (Err Refusal.ItemsMissing) (Ok x) in
+    let limits = cond (ltb x low || ltb 2048 x) (Err Refusal.CountLimit) items in
     let a = passed (ltb (length s) 4) Refusal.CountMissing limits h in
     let b = passed (ltb x low || ltb 2048 x) Refusal.CountLimit items a.1 in
     let l = neither (ltb x low) (ltb 2048 x) b.0 in
-    let c = passed (ltb (length s - 4) (x * size)) Refusal.ItemsMissing (Count.Items x) b.1 in
+    let c = passed (ltb (length s - 4) (x * size)) Refusal.ItemsMissing (Ok x) b.1 in
     let e : k ≡ number_of 4 s = cc c.1 in
     record {
       is = e;
@@ -51,20 +51,16 @@ counted size low s {k} h =
       room = rw e (omega (arith, ltb-false (length s) 4 a.0, ltb-false (length s - 4) (x * size) c.0));
     }
 
--- where a section that was counted ends
-pub section_end : (size low : ℕ) (s : List ℕ) (at : ℕ) {k : ℕ} → count_of size low (drop at s) ≡ Count.Items k → at + (4 + k * size) ≤ length s
-section_end size low s at h = omega (arith, simp length-drop at (counted size low (drop at s) h).room)
-
 -- ---- a section
 
 module _ (w p low : ℕ) (s : List ℕ) (rest : List ℕ → List ℕ → Content) where
-  pub goes_on : {k : ℕ} → count_of (p * w) low s ≡ Count.Items k → section_from w p low s rest ≡ rest (numbers_of w (k * p) (drop 4 s)) (drop (4 + k * (p * w)) s)
+  pub goes_on : {k : ℕ} → count_of (p * w) low s ≡ Ok k → section_from w p low s rest ≡ rest (numbers_of w (k * p) (drop 4 s)) (drop (4 + k * (p * w)) s)
   unfolding section_from
-  goes_on h = ap (λ (q : Count). after_count q (λ k. rest (numbers_of w (k * p) (drop 4 s)) (drop (4 + k * (p * w)) s))) h
+  goes_on h = ap (λ (q : Result ℕ Refusal). after_count q (λ k. rest (numbers_of w (k * p) (drop 4 s)) (drop (4 + k * (p * w)) s))) h
 
-  stops : {why : Refusal} → count_of (p * w) low s ≡ Count.Refused why → section_from w p low s rest ≡ refused why
+  stops : {why : Refusal} → count_of (p * w) low s ≡ Err why → section_from w p low s rest ≡ refused why
   unfolding section_from
-  stops h = ap (λ (q : Count). after_count q (λ k. rest (numbers_of w (k * p) (drop 4 s)) (drop (4 + k * (p * w)) s))) h
+  stops h = ap (λ (q : Result ℕ Refusal). after_count q (λ k. rest (numbers_of w (k * p) (drop 4 s)) (drop (4 + k * (p * w)) s))) h
 
 bytes_follow : (s : List ℕ) (x : Content) → 0 < length s → at_end s x ≡ refused Refusal.TrailingBytes
 unfolding at_end
@@ -79,16 +75,16 @@ none_follow (byte ∷ s) x h = absurd (omega arith)
 -- ---- a parcel, on from its counts: where each section stands
 
 module _ (w : ℕ) (s : List ℕ) where
-  pub code_refused : {why : Refusal} → count_of 8 1 s ≡ Count.Refused why → read_of w s ≡ refused why
+  pub code_refused : {why : Refusal} → count_of 8 1 s ≡ Err why → read_of w s ≡ refused why
   unfolding read_of
   code_refused h = stops 8 1 1 s _ h
 
-  module _ {n : ℕ} (h₁ : count_of 8 1 s ≡ Count.Items n) where
-    pub edges_refused : {why : Refusal} → count_of (2 * w) 0 (drop (4 + n * 8) s) ≡ Count.Refused why → read_of w s ≡ refused why
+  module _ {n : ℕ} (h₁ : count_of 8 1 s ≡ Ok n) where
+    pub edges_refused : {why : Refusal} → count_of (2 * w) 0 (drop (4 + n * 8) s) ≡ Err why → read_of w s ≡ refused why
     unfolding read_of
     edges_refused h = goes_on 8 1 1 s _ h₁ ∙ stops w 2 0 _ _ h
 
-    module _ {e : ℕ} (h₂ : count_of (2 * w) 0 (drop (4 + n * 8) s) ≡ Count.Items e) where
+    module _ {e : ℕ} (h₂ : count_of (2 * w) 0 (drop (4 + n * 8) s) ≡ Ok e) where
       abbrev data_at : ℕ
       data_at = 4 + n * 8 + (4 + e * (2 * w))
 
@@ -102,10 +98,10 @@ module _ (w : ℕ) (s : List ℕ) where
       unfolding read_of
       third = goes_on 8 1 1 s _ h₁ ∙ goes_on w 2 0 _ _ h₂ ∙ rw (drop-drop (4 + e * (2 * w)) (4 + n * 8) s)
 
-      pub data_refused : {why : Refusal} → count_of 8 0 (drop data_at s) ≡ Count.Refused why → read_of w s ≡ refused why
+      pub data_refused : {why : Refusal} → count_of 8 0 (drop data_at s) ≡ Err why → read_of w s ≡ refused why
       data_refused h = third ∙ stops 8 1 0 _ _ h
 
-      module _ {d : ℕ} (h₃ : count_of 8 0 (drop data_at s) ≡ Count.Items d) where
+      module _ {d : ℕ} (h₃ : count_of 8 0 (drop data_at s) ≡ Ok d) where
         last : read_of w s ≡ at_end (drop (data_at + (4 + d * 8)) s) (holds code edges (numbers_of 8 (d * 1) (drop 4 (drop data_at s))))
         last = third ∙ goes_on 8 1 0 _ _ h₃ ∙ rw (drop-drop (4 + d * 8) data_at s)
 
@@ -123,17 +119,17 @@ pub record Sectioned (w : ℕ) (s : List ℕ) : Type 0 where
   pub n : ℕ
   pub e : ℕ
   pub d : ℕ
-  pub code_count : count_of 8 1 s ≡ Count.Items n
-  pub edge_count : count_of (2 * w) 0 (drop (4 + n * 8) s) ≡ Count.Items e
-  pub data_count : count_of 8 0 (drop (4 + n * 8 + (4 + e * (2 * w))) s) ≡ Count.Items d
+  pub code_count : count_of 8 1 s ≡ Ok n
+  pub edge_count : count_of (2 * w) 0 (drop (4 + n * 8) s) ≡ Ok e
+  pub data_count : count_of 8 0 (drop (4 + n * 8 + (4 + e * (2 * w))) s) ≡ Ok d
   pub end : length s ≤ 4 + n * 8 + (4 + e * (2 * w)) + (4 + d * 8)
 
-count_led : (q : Count) (rest : ℕ → Content) {a b c : List ℕ} → after_count q rest ≡ holds a b c → (k : ℕ) × (q ≡ Count.Items k) × (rest k ≡ holds a b c)
-count_led (Count.Items k) rest h = (k, refl, h)
-count_led (Count.Refused why) rest h = clash (cc)
+count_led : (q : Result ℕ Refusal) (rest : ℕ → Content) {a b c : List ℕ} → after_count q rest ≡ holds a b c → (k : ℕ) × (q ≡ Ok k) × (rest k ≡ holds a b c)
+count_led (Ok k) rest h = (k, refl, h)
+count_led (Err why) rest h = clash (cc)
 
 led : (w p low : ℕ) (s : List ℕ) (rest : List ℕ → List ℕ → Content) {a b c : List ℕ} → section_from w p low s rest ≡ holds a b c
-    → (k : ℕ) × (count_of (p * w) low s ≡ Count.Items k) × (rest (numbers_of w (k * p) (drop 4 s)) (drop (4 + k * (p * w)) s) ≡ holds a b c)
+    → (k : ℕ) × (count_of (p * w) low s ≡ Ok k) × (rest (numbers_of w (k * p) (drop 4 s)) (drop (4 + k * (p * w)) s) ≡ holds a b c)
 unfolding section_from
 led w p low s rest h = count_led (count_of (p * w) low s) _ h
 

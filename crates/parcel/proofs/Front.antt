@@ -13,7 +13,7 @@ use Rattle.lists.proofs.Bools.{or_right}
 use Rattle.answers.specs.declared.Refusal.{Refusal}
 use Rattle.parcel.specs.Bytes.{number_of}
 use Rattle.parcel.specs.Parcel.{count_of, read_of}
-use Rattle.parcel.specs.declared.reader.Count.{Count}
+use Rattle.std.specs.Prelude.{Result, Ok, Err}
 use Rattle.parcel.proofs.Contents.{counted, code_refused, edges_refused, data_refused, bytes_left}
 use Rattle.parcel.specs.Theorems.{FrontSuffices}
 
@@ -45,10 +45,10 @@ front_count size low j u h l =
     rw (len, front, le-ltb j 4 (omega arith), le-ltb (length u) 4 (omega arith)) (go (ltb x low || ltb 2048 x) refl)
   where
     go : (b : Bool) → (ltb (number_of 4 u) low || ltb 2048 (number_of 4 u)) ≡ b
-        → cond b (Count.Refused Refusal.CountLimit)
-        (cond (ltb (j - 4) (number_of 4 u * size)) (Count.Refused Refusal.ItemsMissing) (Count.Items (number_of 4 u)))
-        ≡ cond b (Count.Refused Refusal.CountLimit)
-        (cond (ltb (length u - 4) (number_of 4 u * size)) (Count.Refused Refusal.ItemsMissing) (Count.Items (number_of 4 u)))
+        → cond b (Err Refusal.CountLimit)
+        (cond (ltb (j - 4) (number_of 4 u * size)) (Err Refusal.ItemsMissing) (Ok (number_of 4 u)))
+        ≡ cond b (Err Refusal.CountLimit)
+        (cond (ltb (length u - 4) (number_of 4 u * size)) (Err Refusal.ItemsMissing) (Ok (number_of 4 u)))
     go true e = refl
     go false e =
         let m : number_of 4 u * size ≤ 2048 * size = mul-le-mul_right size (ltb-false 2048 (number_of 4 u) (or_right (ltb (number_of 4 u) low) _ e)) in
@@ -63,26 +63,26 @@ module _ (s : List ℕ) (k : ℕ) (long : 40973 ≤ k) (within : k ≤ length s)
   length_front : length (take k s) ≡ k
   length_front = length-take-le k s within
 
-  data_case : (n e : ℕ) → n ≤ 2048 → e ≤ 2048 → count_of 8 1 s ≡ Count.Items n → count_of 8 1 (take k s) ≡ Count.Items n
-      → count_of 4 0 (drop (4 + n * 8) s) ≡ Count.Items e → count_of 4 0 (drop (4 + n * 8) (take k s)) ≡ Count.Items e
-      → (c : Count) → count_of 8 0 (drop (4 + n * 8 + (4 + e * 4)) s) ≡ c → read_of 2 (take k s) ≡ read_of 2 s
-  data_case n e hn he a a' b b' (Count.Refused why) q =
+  data_case : (n e : ℕ) → n ≤ 2048 → e ≤ 2048 → count_of 8 1 s ≡ Ok n → count_of 8 1 (take k s) ≡ Ok n
+      → count_of 4 0 (drop (4 + n * 8) s) ≡ Ok e → count_of 4 0 (drop (4 + n * 8) (take k s)) ≡ Ok e
+      → (c : Result ℕ Refusal) → count_of 8 0 (drop (4 + n * 8 + (4 + e * 4)) s) ≡ c → read_of 2 (take k s) ≡ read_of 2 s
+  data_case n e hn he a a' b b' (Err why) q =
       data_refused 2 (take k s) a' b' (count_at 8 0 (4 + n * 8 + (4 + e * 4)) (omega arith) ∙ q) ∙ sym (data_refused 2 s a b q)
-  data_case n e hn he a a' b b' (Count.Items d) q =
+  data_case n e hn he a a' b b' (Ok d) q =
       let hd = (counted 8 0 (drop (4 + n * 8 + (4 + e * 4)) s) q).upto in
       bytes_left 2 (take k s) a' b' (count_at 8 0 (4 + n * 8 + (4 + e * 4)) (omega arith) ∙ q) (rw length_front (omega arith))
       ∙ sym (bytes_left 2 s a b q (omega arith))
 
-  edges_case : (n : ℕ) → n ≤ 2048 → count_of 8 1 s ≡ Count.Items n → count_of 8 1 (take k s) ≡ Count.Items n
-      → (c : Count) → count_of 4 0 (drop (4 + n * 8) s) ≡ c → read_of 2 (take k s) ≡ read_of 2 s
-  edges_case n hn a a' (Count.Refused why) q =
+  edges_case : (n : ℕ) → n ≤ 2048 → count_of 8 1 s ≡ Ok n → count_of 8 1 (take k s) ≡ Ok n
+      → (c : Result ℕ Refusal) → count_of 4 0 (drop (4 + n * 8) s) ≡ c → read_of 2 (take k s) ≡ read_of 2 s
+  edges_case n hn a a' (Err why) q =
       edges_refused 2 (take k s) a' (count_at 4 0 (4 + n * 8) (omega arith) ∙ q) ∙ sym (edges_refused 2 s a q)
-  edges_case n hn a a' (Count.Items e) q =
+  edges_case n hn a a' (Ok e) q =
       data_case n e hn (counted 4 0 (drop (4 + n * 8) s) q).upto a a' q (count_at 4 0 (4 + n * 8) (omega arith) ∙ q) _ refl
 
-  code_case : (c : Count) → count_of 8 1 s ≡ c → read_of 2 (take k s) ≡ read_of 2 s
-  code_case (Count.Refused why) q = code_refused 2 (take k s) (count_at 8 1 0 (omega arith) ∙ q) ∙ sym (code_refused 2 s q)
-  code_case (Count.Items n) q =
+  code_case : (c : Result ℕ Refusal) → count_of 8 1 s ≡ c → read_of 2 (take k s) ≡ read_of 2 s
+  code_case (Err why) q = code_refused 2 (take k s) (count_at 8 1 0 (omega arith) ∙ q) ∙ sym (code_refused 2 s q)
+  code_case (Ok n) q =
       edges_case n (counted 8 1 s q).upto q (count_at 8 1 0 (omega arith) ∙ q) _ refl
 
 pub front_suffices : FrontSuffices

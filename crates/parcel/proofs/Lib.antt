@@ -3,7 +3,7 @@ pub mod Runs
 pub mod Sections
 pub mod WriterAnswers
 pub mod Contents
-pub mod Standing
+pub mod Held
 pub mod ReaderAnswers
 pub mod RoundTrips
 pub mod Calls

@@ -9,9 +9,10 @@ use borrow.Author.Tests.{le-ltb}
 use Rattle.lists.proofs.Bools.{clash}
 use Rattle.answers.specs.declared.Refusal.{Refusal}
 use Rattle.answers.specs.declared.Place.{Place}
-use Rattle.parcel.specs.declared.Read.{Read}
+use Rattle.answers.specs.Faults.{fault}
+use Rattle.std.specs.Prelude.{Ok, Err}
 use Rattle.parcel.specs.Bytes.{numbers_of}
-use Rattle.parcel.specs.Parcel.{Content, holds, refused, read_of, counts_of, room_for, edges_in, ReadSo}
+use Rattle.parcel.specs.Parcel.{Read, counts, Content, holds, refused, read_of, counts_of, room_for, edges_in, ReadSo}
 use Rattle.parcel.proofs.Runs.{length_numbers}
 use Rattle.parcel.proofs.ReaderAnswers.{Whole, whole, counts_read}
 
@@ -27,11 +28,11 @@ holds_fits s code edges words h = go (whole 2 s (ap counts_of h))
         (omega (arith, w.code_limit, w.data_limit), omega (arith, w.edge_limit, even))
 
 -- a refusal there is the reader's own, never for a place that is too short
-pub read_refused : (s : List ℕ) {why : Refusal} {place : Place} → room_for 4096 4096 (read_of 2 s) ≡ Read.Refused why place
-    → Read.Refused why place ≡ counts_of (read_of 2 s)
+pub read_refused : (s : List ℕ) {why : Refusal} {place : Place} → room_for 4096 4096 (read_of 2 s) ≡ Err (fault why place)
+    → Err (fault why place) ≡ counts_of (read_of 2 s)
 read_refused s {why} {place} = go (read_of 2 s) refl
   where
-    go : (x : Content) → read_of 2 s ≡ x → room_for 4096 4096 x ≡ Read.Refused why place → Read.Refused why place ≡ counts_of x
+    go : (x : Content) → read_of 2 s ≡ x → room_for 4096 4096 x ≡ Err (fault why place) → Err (fault why place) ≡ counts_of x
     go (refused w) e h = sym h
     go (holds code edges words) e h =
         let f = holds_fits s code edges words e in
@@ -39,7 +40,7 @@ read_refused s {why} {place} = go (read_of 2 s) refl
 
 -- what a call of `read_parcel` on places of 4,096 left
 module _ (s m g : List ℕ) (found : Read) (m₁ g₁ : List ℕ) (so : ReadSo 2 s m g found m₁ g₁) (hm : length m ≡ 4096)
-    (hg : length g ≡ 4096) {c e d : ℕ} (h : found ≡ Read.Counts c e d) where
+    (hg : length g ≡ 4096) {c e d : ℕ} (h : found ≡ Ok (counts c e d)) where
   pub is_whole : Whole 2 s c e d
   is_whole = whole 2 s (counts_read (read_of 2 s) 4096 4096 (sym h ∙ rw (hm, hg) at so.answers))
 

@@ -2,20 +2,25 @@
 use mathlib.Core.Path.{◌≡◌, refl, sym, ap, ap₂, ◌∙◌}
 use mathlib.Core.Bool.{Bool, true, false, cond, ◌||◌}
 use mathlib.Core.List.{List, [], ◌++◌, append_assoc, append-nil}
-use Prim.Native.Nat.{ℕ, ◌+◌, ◌-◌, ◌*◌, ◌/◌, ◌≤◌, ◌<◌}
+use Prim.Native.Nat.{ℕ, ◌+◌, ◌-◌, ◌*◌, ◌/◌, ◌≤◌}
 use native.Mathlib.Omega.{arith}
+use native.Mathlib.Nat.{mul-le-mul_right}
 use lib.ListN.{length, take, drop, length-append, length-drop, drop_of_length-le}
 use lib.Seq.{drop-drop, take_at, drop_at, take_all}
 use lib.Dec.{ltb}
-use borrow.Author.Tests.{lt-ltb, le-ltb, ltb-false}
+use borrow.Author.Tests.{le-ltb, ltb-false}
 use borrow.Rule.Slice.PartMut.{put_mid, post_of}
 use Rattle.lists.proofs.Bools.{clash}
 use Rattle.answers.specs.declared.Refusal.{Refusal}
 use Rattle.answers.specs.declared.Place.{Place}
+use Rattle.answers.specs.declared.Fault.{Fault}
+use Rattle.answers.specs.Faults.{fault}
+use Rattle.std.specs.Prelude.{Result, Ok, Err, MatchResult}
+use Rattle.parcel.specs.declared.reader.Counts.{Counts}
+use Rattle.parcel.specs.Inner.{held_of}
 use Rattle.parcel.specs.Bytes.{numbers_of}
 use Rattle.lists.specs.Places.{put_over}
-use Rattle.parcel.specs.Parcel.{Content, holds, refused, read_of, counts_of, room_for, memory_in, edges_in, ReadSo}
-use Rattle.parcel.specs.declared.Read.{Read}
+use Rattle.parcel.specs.Parcel.{Read, counts, Content, holds, refused, read_of, counts_of, room_for, memory_in, edges_in, ReadSo}
 use Rattle.parcel.proofs.Runs.{length_numbers}
 use Rattle.parcel.proofs.Contents.{Sectioned, sectioned, counted, all_read, neither}
 
@@ -27,6 +32,10 @@ pub record Whole (w : ℕ) (s : List ℕ) (n e d : ℕ) : Type 0 where
   pub code_limit : n ≤ 2048
   pub edge_limit : e ≤ 2048
   pub data_limit : d ≤ 2048
+
+-- the bytes of the edges are few
+pub pairs_small : {w : ℕ} {s : List ℕ} {n e d : ℕ} → Whole w s n e d → w ≤ 8 → e * (2 * w) ≤ 32768
+pairs_small {w} h l = let m = mul-le-mul_right (2 * w) h.edge_limit in omega (arith, m)
 
 whole_from : (w : ℕ) (s : List ℕ) (t : Sectioned w s) → Whole w s t.n t.e t.d
 whole_from w s t =
@@ -44,48 +53,44 @@ whole_from w s t =
       data_limit = z.upto;
     }
 
-whole_told : (w : ℕ) (s : List ℕ) (t : Sectioned w s) {n e d : ℕ} → counts_of (read_of w s) ≡ Read.Counts n e d → Whole w s n e d
+whole_told : (w : ℕ) (s : List ℕ) (t : Sectioned w s) {n e d : ℕ} → counts_of (read_of w s) ≡ Ok (counts n e d) → Whole w s n e d
 whole_told w s t {n} {e} {d} h =
     let all = whole_from w s t in
     let half : t.e * 2 / 2 ≡ t.e = omega arith in
-    let q : Read.Counts t.n t.e t.d ≡ Read.Counts n e d = simp (length_numbers, half) at (ap counts_of (sym all.is) ∙ h) in
-    let q₁ : t.n ≡ n = cc in
-    let q₂ : t.e ≡ e = cc in
-    let q₃ : t.d ≡ d = cc in
+    let q : Ok (counts t.n t.e t.d) ≡ Ok (counts n e d) = simp (length_numbers, half) at (ap counts_of (sym all.is) ∙ h) in
+    let r : counts t.n t.e t.d ≡ counts n e d = cc in
+    let q₁ : t.n ≡ n = ap (λ (x : Counts). x.code) r in
+    let q₂ : t.e ≡ e = ap (λ (x : Counts). x.edges) r in
+    let q₃ : t.d ≡ d = ap (λ (x : Counts). x.data) r in
     rw (← q₁, ← q₂, ← q₃) all
 
-held : (w : ℕ) (s : List ℕ) (x : Content) {n e d : ℕ} → read_of w s ≡ x → counts_of x ≡ Read.Counts n e d → Sectioned w s
+held : (w : ℕ) (s : List ℕ) (x : Content) {n e d : ℕ} → read_of w s ≡ x → counts_of x ≡ Ok (counts n e d) → Sectioned w s
 held w s (holds code edges words) p h = sectioned w s p
 held w s (refused why) p h = clash (cc)
 
-pub whole : (w : ℕ) (s : List ℕ) {n e d : ℕ} → counts_of (read_of w s) ≡ Read.Counts n e d → Whole w s n e d
+pub whole : (w : ℕ) (s : List ℕ) {n e d : ℕ} → counts_of (read_of w s) ≡ Ok (counts n e d) → Whole w s n e d
 whole w s h = whole_told w s (held w s (read_of w s) refl h) h
+
+-- what the sections hold, with a fault for the refusal
+pub counts_nowhere : (x : Content) {r : Result Counts Fault} → MatchResult (held_of x) (λ k. r ≡ Ok k) (λ why. r ≡ Err (fault why Place.Nowhere)) → r ≡ counts_of x
+counts_nowhere (holds code edges words) h = h
+counts_nowhere (refused why) h = h
 
 -- ---- the room that is lent: what is answered
 
-pub not_whole : (x : Content) (m g : ℕ) {why : Refusal} {place : Place} → counts_of x ≡ Read.Refused why place → Read.Refused why place ≡ room_for m g x
-not_whole (holds code edges words) m g h = clash (cc)
-not_whole (refused why) m g h = sym h
-
 module _ {w : ℕ} {s : List ℕ} {n e d : ℕ} (h : Whole w s n e d) (m g : ℕ) where
-  pub memory_short : m < n + d → Read.Refused Refusal.PlaceTooShort Place.Nowhere ≡ room_for m g (read_of w s)
-  memory_short l = simp (h.is, length_numbers, lt-ltb m (n + d) l)
-
-  pub edges_short : n + d ≤ m → g < e * 2 → Read.Refused Refusal.PlaceTooShort Place.Nowhere ≡ room_for m g (read_of w s)
-  edges_short k l = simp (h.is, length_numbers, le-ltb m (n + d) k, lt-ltb g (e * 2) l)
-
-  pub none_short : n + d ≤ m → e * 2 ≤ g → Read.Counts n e d ≡ room_for m g (read_of w s)
+  pub none_short : n + d ≤ m → e * 2 ≤ g → Ok (counts n e d) ≡ room_for m g (read_of w s)
   none_short k l =
       let half : e * 2 / 2 ≡ e = omega arith in
       simp (h.is, length_numbers, half, le-ltb m (n + d) k, le-ltb g (e * 2) l)
 
 -- counts were answered: they are the parcel's, and there is room for all of it
-room_made : (short : Bool) (r : Read) {n e d : ℕ} → Read.Counts n e d ≡ cond short (Read.Refused Refusal.PlaceTooShort Place.Nowhere) r
-    → (short ≡ false) × (r ≡ Read.Counts n e d)
+room_made : (short : Bool) (r : Read) {n e d : ℕ} → Ok (counts n e d) ≡ cond short (Err (fault Refusal.PlaceTooShort Place.Nowhere)) r
+    → (short ≡ false) × (r ≡ Ok (counts n e d))
 room_made true r h = clash (cc)
 room_made false r h = (refl, sym h)
 
-pub counts_read : (x : Content) (m g : ℕ) {n e d : ℕ} → Read.Counts n e d ≡ room_for m g x → counts_of x ≡ Read.Counts n e d
+pub counts_read : (x : Content) (m g : ℕ) {n e d : ℕ} → Ok (counts n e d) ≡ room_for m g x → counts_of x ≡ Ok (counts n e d)
 counts_read (holds code edges words) m g h =
     (room_made (ltb m (length code + length words) || ltb g (length edges)) (counts_of (holds code edges words)) h).1
 counts_read (refused why) m g h = sym h
@@ -95,10 +100,10 @@ pub record Fitting (w : ℕ) (s : List ℕ) (m g n e d : ℕ) : Type 0 where
   pub words : n + d ≤ m
   pub numbers : e * 2 ≤ g
 
-pub fitting : (w : ℕ) (s : List ℕ) (m g : ℕ) {n e d : ℕ} → Read.Counts n e d ≡ room_for m g (read_of w s) → Fitting w s m g n e d
+pub fitting : (w : ℕ) (s : List ℕ) (m g : ℕ) {n e d : ℕ} → Ok (counts n e d) ≡ room_for m g (read_of w s) → Fitting w s m g n e d
 fitting w s m g {n} {e} {d} h =
     let t = whole w s (counts_read (read_of w s) m g h) in
-    let short = (room_made (ltb m (n + d) || ltb g (e * 2)) (Read.Counts n (e * 2 / 2) d) (simp (t.is, length_numbers) at h)).0 in
+    let short = (room_made (ltb m (n + d) || ltb g (e * 2)) (Ok (counts n (e * 2 / 2) d)) (simp (t.is, length_numbers) at h)).0 in
     let f = neither (ltb m (n + d)) (ltb g (e * 2)) short in
     record { all = t; words = ltb-false m (n + d) f.0; numbers = ltb-false g (e * 2) f.1 }
 
@@ -121,12 +126,9 @@ put_after code words m {m₁} {part} n e h q r =
     ∙ ap (λ (a : List ℕ). (code ++ words) ++ a) (drop-drop (length words) (length code) m ∙ ap (λ (j : ℕ). drop j m) (sym (length-append code words)))
 
 module _ {w : ℕ} {s m g : List ℕ} where
-  pub read_refused : {why : Refusal} {place : Place} → Read.Refused why place ≡ room_for (length m) (length g) (read_of w s) → ReadSo w s m g (Read.Refused why place) m g
-  read_refused h = record { answers = h; memory = refl; edges = refl }
-
-  pub read_put : {n e d : ℕ} {m' g' : List ℕ} → Read.Counts n e d ≡ room_for (length m) (length g) (read_of w s)
+  pub read_put : {n e d : ℕ} {m' g' : List ℕ} → Ok (counts n e d) ≡ room_for (length m) (length g) (read_of w s)
       → m' ≡ put_over (numbers_of 8 n (drop 4 s) ++ numbers_of 8 d (drop (12 + n * 8 + e * (2 * w)) s)) m → g' ≡ put_over (numbers_of w (e * 2) (drop (8 + n * 8) s)) g
-      → ReadSo w s m g (Read.Counts n e d) m' g'
+      → ReadSo w s m g (Ok (counts n e d)) m' g'
   read_put h a b =
       let t = (fitting w s (length m) (length g) h).all in
       record {

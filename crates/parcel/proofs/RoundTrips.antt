@@ -10,7 +10,7 @@ use borrow.Author.Tests.{le-ltb}
 use Rattle.parcel.specs.Bytes.{number_of, bytes_of, numbers_of, all_bytes_of}
 use Rattle.parcel.specs.Parcel.{Content, holds, count_of, section_from, at_end, read_of, section_of, parcel_of}
 use Rattle.parcel.specs.Theorems.{AllBelow, ReadWritten, WrittenRead}
-use Rattle.parcel.specs.declared.reader.Count.{Count}
+use Rattle.std.specs.Prelude.{Ok}
 use Rattle.parcel.proofs.Numbers.{length_bytes}
 use Rattle.parcel.proofs.Runs.{length_numbers, length_all_bytes}
 use Rattle.parcel.proofs.WriterAnswers.{well_shaped}
@@ -59,7 +59,7 @@ bytes_of_numbers w (suc k) s h l =
 
 -- ---- a section
 
-count_of_bytes : (size low k : ℕ) (t : List ℕ) → low ≤ k → k ≤ 2048 → k * size ≤ length t → count_of size low (bytes_of 4 k ++ t) ≡ Count.Items k
+count_of_bytes : (size low k : ℕ) (t : List ℕ) → low ≤ k → k ≤ 2048 → k * size ≤ length t → count_of size low (bytes_of 4 k ++ t) ≡ Ok k
 unfolding count_of
 count_of_bytes size low k t a b d =
     let e : number_of 4 (bytes_of 4 k ++ t) ≡ k = number_of_bytes 4 k t (omega arith) in
@@ -84,7 +84,7 @@ section_read w p low k xs t rest e f a b below =
     (sym (drop-drop (k * (p * w)) 4 s) ∙ ap (drop (k * (p * w))) four ∙ drop_at (all_bytes_of w xs) t (k * (p * w)) size)
 
 -- read and then written: the same bytes
-section_written : (w p low : ℕ) (s : List ℕ) {k : ℕ} → 0 < p → count_of (p * w) low s ≡ Count.Items k → AllBelow 256 s
+section_written : (w p low : ℕ) (s : List ℕ) {k : ℕ} → 0 < p → count_of (p * w) low s ≡ Ok k → AllBelow 256 s
     → section_of w p (numbers_of w (k * p) (drop 4 s)) ++ drop (4 + k * (p * w)) s ≡ s
 unfolding section_of
 section_written w p low s {k} pos h below =

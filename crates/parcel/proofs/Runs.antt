@@ -4,7 +4,7 @@ use mathlib.Core.List.{List, [], ◌∷◌}
 use Prim.Native.Nat.{ℕ, zero, suc, ◌+◌, ◌-◌, ◌*◌, ◌≤◌, ◌<◌}
 use native.Mathlib.Omega.{arith}
 use native.Mathlib.Numerals.{add-one}
-use native.Mathlib.Nat.{add-zero, zero-mul, suc-mul, sub-zero, add_comm}
+use native.Mathlib.Nat.{add-zero, zero-mul, suc-mul, sub-zero, add_comm, mul-le-mul_right}
 use lib.ListN.{length, get_or, drop, set, length-set, length-append, drop_of_length-le}
 use lib.Seq.{drop-drop, drop-cons, sets, length-sets}
 use Rattle.parcel.specs.Bytes.{number_of, bytes_of, numbers_of, all_bytes_of}
@@ -23,6 +23,10 @@ length_all_bytes w [] = sym (zero-mul w)
 length_all_bytes w (x ∷ xs) =
     length-append (bytes_of w x) (all_bytes_of w xs) ∙ ap₂ (λ (a b : ℕ). a + b) (length_bytes w x) (length_all_bytes w xs)
     ∙ add_comm w (length xs * w) ∙ sym (suc-mul (length xs) w)
+
+-- a number of a run stands within it
+pub run_room : (w i k at n : ℕ) → i < k → at + k * w ≤ n → at + i * w + w ≤ n
+run_room w i k at n l h = let m : suc i * w ≤ k * w = mul-le-mul_right w l in omega (arith, m, suc-mul i w)
 
 -- reading: i of the k numbers of w bytes in s from at are stored
 pub record Reading (w : ℕ) (s : List ℕ) (at k : ℕ) (to₀ to : List ℕ) (i : ℕ) : Type 0 where

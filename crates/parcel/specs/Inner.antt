@@ -1,27 +1,15 @@
--- What the inner functions of the reader and of the writer answer. No contract of a public function cites these.
-use Rattle.std.specs.Prelude.{ℕ, ◌+◌, ◌*◌, ◌-◌, ◌/◌, ◌%◌, ◌≤◌, ◌≡◌, List, cond, ltb}
+-- What the inner functions of the reader and of the writer are given and answer. No contract of a public function cites these.
+use Rattle.std.specs.Prelude.{ℕ, ◌+◌, ◌*◌, ◌-◌, ◌/◌, ◌%◌, ◌≤◌, ◌≡◌, cond, length, ltb, Option, Some, None, Result, Ok, Err}
 use Rattle.answers.specs.declared.Refusal.{Refusal}
 use Rattle.answers.specs.declared.Place.{Place}
-use Rattle.parcel.specs.declared.reader.Count.{Count}
-use Rattle.parcel.specs.declared.Read.{Read}
-use Rattle.parcel.specs.declared.Written.{Written}
-use Rattle.parcel.specs.Parcel.{read_of, counts_of}
+use Rattle.answers.specs.Faults.{fault}
+use Rattle.parcel.specs.declared.reader.Counts.{Counts}
+use Rattle.parcel.specs.Parcel.{Written, counts, Content, holds, refused}
 
--- where a section that begins at a position ends: past its count and its items, or no further where its count is refused
-abbrev pub end_of : ℕ → ℕ → Count → ℕ
-end_of size at (Count.Items k) = at + (4 + k * size)
-end_of size at (Count.Refused why) = at
-
--- what the counts of the three sections come to, with so many bytes left after them
-abbrev pub settled_of : ℕ → Count → Count → Count → Read
-settled_of left (Count.Refused why) edges words = Read.Refused why Place.Nowhere
-settled_of left (Count.Items n) (Count.Refused why) words = Read.Refused why Place.Nowhere
-settled_of left (Count.Items n) (Count.Items e) (Count.Refused why) = Read.Refused why Place.Nowhere
-settled_of left (Count.Items n) (Count.Items e) (Count.Items d) = cond (ltb 0 left) (Read.Refused Refusal.TrailingBytes Place.Nowhere) (Read.Counts n e d)
-
--- what a parcel holds, where an edge has `size` bytes, two numbers
-abbrev pub CountsAt : ℕ → List ℕ → Read → Type 0
-CountsAt size s r = (w : ℕ) → size ≡ 2 * w → r ≡ counts_of (read_of w s)
+-- what the sections hold, before any place is looked at, as `counts_of` says with a fault for the refusal
+abbrev pub held_of : Content → Result Counts Refusal
+held_of (holds code edges words) = Ok (counts (length code) (length edges / 2) (length words))
+held_of (refused why) = Err why
 
 -- what number 6 lets through: a memory of len words, n of them code, and so many edge numbers
 pub record WellShaped (len n count : ℕ) : Type 0 where
@@ -37,8 +25,7 @@ abbrev pub size_of : ℕ → ℕ → ℕ → ℕ → ℕ
 size_of len n numbers w = 4 + n * 8 + (4 + numbers * w) + (4 + (len - n) * 8)
 
 -- 18, then 5, then the size, where the first edge that doesn't rise is known
-abbrev pub planned_of : ℕ → ℕ → ℕ → ℕ → ℕ → ℕ → Written
-planned_of len n numbers first w room =
-    cond (ltb first (numbers / 2)) (Written.Refused Refusal.EdgeNotRising (Place.Edge first))
-    (cond (ltb room (size_of len n numbers w)) (Written.Refused Refusal.PlaceTooShort Place.Nowhere)
-    (Written.Bytes (size_of len n numbers w)))
+abbrev pub planned_of : ℕ → ℕ → ℕ → Option ℕ → ℕ → ℕ → Written
+planned_of len n numbers (Some edge) w room = Err (fault Refusal.EdgeNotRising (Place.Edge edge))
+planned_of len n numbers None w room =
+    cond (ltb room (size_of len n numbers w)) (Err (fault Refusal.PlaceTooShort Place.Nowhere)) (Ok (size_of len n numbers w))

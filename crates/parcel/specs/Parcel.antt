@@ -1,17 +1,28 @@
 -- What a parcel holds, and what reading and writing it answer (document 01, "Parcel", and numbers 1 to 6; document 02, K3 and K6).
 -- An edge number has w bytes, which the edition tells.
-use Rattle.std.specs.Prelude.{ℕ, ◌+◌, ◌*◌, ◌-◌, ◌/◌, ◌≡◌, Bool, cond, ◌||◌, List, [], ◌∷◌, ◌++◌, length, take, drop, ltb}
+use Rattle.std.specs.Prelude.{ℕ, ◌+◌, ◌*◌, ◌-◌, ◌/◌, ◌≡◌, Bool, cond, ◌||◌, List, [], ◌∷◌, ◌++◌, length, take, drop, ltb, Result, Ok, Err}
 use Rattle.answers.specs.declared.Refusal.{Refusal}
 use Rattle.answers.specs.declared.Place.{Place}
+use Rattle.answers.specs.declared.Fault.{Fault}
+use Rattle.answers.specs.Faults.{fault}
 use Rattle.answers.specs.Shape.{call_shaped}
 use Rattle.parcel.specs.Bytes.{number_of, bytes_of, numbers_of, all_bytes_of}
 use Rattle.lists.specs.Places.{shorter, put_over}
 use Rattle.graph.specs.Claim.{edge_count}
 use Rattle.rising.specs.Rising.{first_not_rising}
 use Rattle.parcel.specs.declared.Edition.{Edition}
-use Rattle.parcel.specs.declared.reader.Count.{Count}
-use Rattle.parcel.specs.declared.Read.{Read}
-use Rattle.parcel.specs.declared.Written.{Written}
+use Rattle.parcel.specs.declared.reader.Counts.{Counts}
+
+-- how many code words, edges and data words
+abbrev pub counts : ℕ → ℕ → ℕ → Counts
+counts code edges words = record { code = code; edges = edges; «data» = words }
+
+-- what reading answers: the counts, or the reason to refuse the bytes; what writing answers: how many bytes, or the reason to refuse
+abbrev pub Read : Type 0
+Read = Result Counts Fault
+
+abbrev pub Written : Type 0
+Written = Result ℕ Fault
 
 -- Document 01: "16 bits each"; K6: "A second parcel edition has edge addresses of 32 bits, everything else alike"
 abbrev pub width_of : Edition → ℕ
@@ -20,12 +31,12 @@ width_of Edition.Second = 4
 
 -- "1. Fewer than four bytes are left for a count. 2. The count breaks the section's limits. 3. The bytes for the section's items are not all there."
 -- s is what is left of the parcel; an item has size bytes, and there are low to 2,048 of them.
-unfoldable pub count_of : ℕ → ℕ → List ℕ → Count
+unfoldable pub count_of : ℕ → ℕ → List ℕ → Result ℕ Refusal
 count_of size low s =
-    cond (ltb (length s) 4) (Count.Refused Refusal.CountMissing)
-    (cond (ltb (number_of 4 s) low || ltb 2048 (number_of 4 s)) (Count.Refused Refusal.CountLimit)
-    (cond (ltb (length s - 4) (number_of 4 s * size)) (Count.Refused Refusal.ItemsMissing)
-    (Count.Items (number_of 4 s))))
+    cond (ltb (length s) 4) (Err Refusal.CountMissing)
+    (cond (ltb (number_of 4 s) low || ltb 2048 (number_of 4 s)) (Err Refusal.CountLimit)
+    (cond (ltb (length s - 4) (number_of 4 s * size)) (Err Refusal.ItemsMissing)
+    (Ok (number_of 4 s))))
 
 -- what bytes hold: code words, edge numbers and data words, or the reason to refuse them
 pub data Content : Type 0 where
@@ -33,9 +44,9 @@ pub data Content : Type 0 where
   refused : Refusal → Content
 
 -- the rest of the reading, after a count
-abbrev pub after_count : Count → (ℕ → Content) → Content
-after_count (Count.Items k) rest = rest k
-after_count (Count.Refused why) rest = refused why
+abbrev pub after_count : Result ℕ Refusal → (ℕ → Content) → Content
+after_count (Ok k) rest = rest k
+after_count (Err why) rest = refused why
 
 -- a section: low to 2,048 items, each of them p numbers of w bytes, after their count of 32 bits. Its numbers, and the bytes after it, go on to the rest of the reading.
 unfoldable pub section_from : ℕ → ℕ → ℕ → List ℕ → (List ℕ → List ℕ → Content) → Content
@@ -56,13 +67,13 @@ read_of w s =
 
 -- the counts that the bytes hold, before any place is looked at
 abbrev pub counts_of : Content → Read
-counts_of (holds code edges words) = Read.Counts (length code) (length edges / 2) (length words)
-counts_of (refused why) = Read.Refused why Place.Nowhere
+counts_of (holds code edges words) = Ok (counts (length code) (length edges / 2) (length words))
+counts_of (refused why) = Err (fault why Place.Nowhere)
 
 -- "5. A place lent to reader or writer is too short": m words and g edge numbers are lent
 abbrev pub room_for : ℕ → ℕ → Content → Read
 room_for m g (holds code edges words) =
-    cond (ltb m (length code + length words) || ltb g (length edges)) (Read.Refused Refusal.PlaceTooShort Place.Nowhere) (counts_of (holds code edges words))
+    cond (ltb m (length code + length words) || ltb g (length edges)) (Err (fault Refusal.PlaceTooShort Place.Nowhere)) (counts_of (holds code edges words))
 room_for m g (refused why) = counts_of (refused why)
 
 -- "The reader puts code, and data directly after it, into one lent memory, and edge numbers into a second place."
@@ -76,8 +87,8 @@ edges_in (refused why) = []
 
 -- a refusal leaves a place as it was, and nothing is touched past what is put there
 abbrev pub after_read : Read → List ℕ → List ℕ → List ℕ
-after_read (Read.Counts code edges words) new old = put_over new old
-after_read (Read.Refused why place) new old = old
+after_read (Ok found) new old = put_over new old
+after_read (Err f) new old = old
 
 -- what reading the bytes s into the memory m and the edges g comes to
 pub record ReadSo (w : ℕ) (s m g : List ℕ) (answer : Read) (m' g' : List ℕ) : Type 0 where
@@ -98,15 +109,15 @@ parcel_of w code edges words = section_of 8 1 code ++ (section_of w 2 edges ++ s
 abbrev pub written_of : Bool → List ℕ → Bool → List ℕ → Written
 written_of shaped edges short bytes =
     cond shaped
-    (cond (ltb (first_not_rising edges) (edge_count edges)) (Written.Refused Refusal.EdgeNotRising (Place.Edge (first_not_rising edges)))
-    (cond short (Written.Refused Refusal.PlaceTooShort Place.Nowhere)
-    (Written.Bytes (length bytes))))
-    (Written.Refused Refusal.Shape Place.Nowhere)
+    (cond (ltb (first_not_rising edges) (edge_count edges)) (Err (fault Refusal.EdgeNotRising (Place.Edge (first_not_rising edges))))
+    (cond short (Err (fault Refusal.PlaceTooShort Place.Nowhere))
+    (Ok (length bytes))))
+    (Err (fault Refusal.Shape Place.Nowhere))
 
 -- "The writer touches only the parcel's own bytes."
 abbrev pub after_write : Written → List ℕ → List ℕ → List ℕ
-after_write (Written.Bytes k) new old = put_over new old
-after_write (Written.Refused why place) new old = old
+after_write (Ok k) new old = put_over new old
+after_write (Err f) new old = old
 
 -- what writing the memory m, its first n words code, and the edges g over the bytes s comes to
 pub record WrittenSo (w : ℕ) (m : List ℕ) (n : ℕ) (g s : List ℕ) (answer : Written) (s' : List ℕ) : Type 0 where

@@ -11,140 +11,90 @@ ghost use Rattle.lists.specs.Places.{put_over};
 ghost use Rattle.std.specs.Prelude.{◌≡◌, ◌++◌, ◌+◌, ◌*◌, ◌≤◌, length, drop};
 ghost use Rattle.std.proofs.lemmas.List.Edits.{sets};
 
-use answers::{Place, Refusal};
+use answers::{Fault, Place, Refusal};
+pub use bytes::InBytes;
+pub use reader::Counts;
+use rising::EdgeNumber;
 
 // An edge number has 16 bits in the first edition and 32 in the second.
-#[derive(Clone, Copy)]
+#[derive(Clone, Copy, Debug, PartialEq, Eq)]
 pub enum Edition {
     First,
     Second,
 }
 
-#[derive(Clone, Copy)]
-pub enum Read {
-    Counts {
-        code: usize,
-        edges: usize,
-        data: usize,
-    },
-    Refused(Refusal, Place),
-}
-
-#[derive(Clone, Copy)]
-pub enum Written {
-    Bytes(usize),
-    Refused(Refusal, Place),
-}
-
 // How many code words, edges and data words a parcel of the edition holds, or why it is refused.
-pub fn counts(edition: Edition, parcel: &[u8]) -> Read
+pub fn counts(edition: Edition, parcel: &[u8]) -> Result<Counts, Fault>
     ensures { result ≡ counts_of (read_of (width_of edition) parcel.now) }
 {
-    reader::counts(parcel, edge_size(edition))
+    reader::held(parcel, width(edition))
 }
 
 // Reads a parcel: code, and data directly after it, into the memory, and edge numbers into the edges. Nothing is put anywhere
-// before every test has passed.
-pub fn read_parcel(parcel: &[u8], memory: &mut [u64], edges: &mut [u16]) -> Read
-    ensures { ReadSo 2 parcel.now memory.old edges.old result memory.new edges.new }
+// before every test has passed. Edge numbers of 16 bits are read from the first edition, and of 32 from the second.
+pub fn read_parcel<E: EdgeNumber + InBytes>(
+    parcel: &[u8],
+    memory: &mut [u64],
+    edges: &mut [E],
+) -> Result<Counts, Fault>
+    ensures { ReadSo E.WIDTH parcel.now memory.old (E.numbers edges.old) result memory.new (E.numbers edges.new) }
 {
-    let found = room_for(Edition::First, parcel, memory.len(), edges.len());
-    let Read::Counts {
-        code,
-        edges: pairs,
-        data,
-    } = found
-    else {
-        return found;
-    };
-    memory_into(parcel, code, 12 + code * 8 + pairs * 4, data, memory);
-    bytes::edges_into(parcel, 8 + code * 8, pairs * 2, edges);
-    found
+    let width = E::WIDTH;
+    let found = room_for(parcel, width, memory.len(), edges.len())?;
+    memory_into(
+        parcel,
+        found.code,
+        12 + found.code * 8 + found.edges * (2 * width),
+        found.data,
+        memory,
+    );
+    bytes::numbers_into(parcel, 8 + found.code * 8, found.edges * 2, edges);
+    Ok(found)
 }
 
-// The same of the second edition.
-pub fn read_wide_parcel(parcel: &[u8], memory: &mut [u64], edges: &mut [u32]) -> Read
-    ensures { ReadSo 4 parcel.now memory.old edges.old result memory.new edges.new }
+// Writes the memory, its first n words code, and the edges as a parcel of the edition that has such edge numbers, if the edges rise.
+pub fn write_parcel<E: EdgeNumber + InBytes>(
+    memory: &[u64],
+    n: usize,
+    edges: &[E],
+    parcel: &mut [u8],
+) -> Result<usize, Fault>
+    ensures { WrittenSo E.WIDTH memory.now n (E.numbers edges.now) parcel.old result parcel.new }
 {
-    let found = room_for(Edition::Second, parcel, memory.len(), edges.len());
-    let Read::Counts {
-        code,
-        edges: pairs,
-        data,
-    } = found
-    else {
-        return found;
-    };
-    memory_into(parcel, code, 12 + code * 8 + pairs * 8, data, memory);
-    bytes::wide_edges_into(parcel, 8 + code * 8, pairs * 2, edges);
-    found
-}
-
-// Writes the memory, its first n words code, and the edges as a parcel, if the edges rise.
-pub fn write_parcel(memory: &[u64], n: usize, edges: &[u16], parcel: &mut [u8]) -> Written
-    ensures { WrittenSo 2 memory.now n edges.now parcel.old result parcel.new }
-{
+    let width = E::WIDTH;
     let len = memory.len();
     let numbers = edges.len();
     if !answers::call_shaped(len, n, numbers) {
-        return Written::Refused(Refusal::Shape, Place::Nowhere);
+        return Err(Fault::nowhere(Refusal::Shape));
     }
     let first = rising::first_not_rising(edges);
-    let answer = planned(len, n, numbers, first, 2, parcel.len());
-    let Written::Bytes(_) = answer else {
-        return answer;
-    };
-    put_word_section(parcel, 0, &memory[..n]);
-    put_edge_section(parcel, 4 + n * 8, edges);
-    put_word_section(parcel, 8 + n * 8 + numbers * 2, &memory[n..]);
-    answer
+    let size = planned(len, n, numbers, first, width, parcel.len())?;
+    put_section(parcel, 0, 1, &memory[..n]);
+    put_section(parcel, 4 + n * 8, 2, edges);
+    put_section(parcel, 8 + n * 8 + numbers * width, 1, &memory[n..]);
+    Ok(size)
 }
 
-// The same in the second edition.
-pub fn write_wide_parcel(memory: &[u64], n: usize, edges: &[u32], parcel: &mut [u8]) -> Written
-    ensures { WrittenSo 4 memory.now n edges.now parcel.old result parcel.new }
-{
-    let len = memory.len();
-    let numbers = edges.len();
-    if !answers::call_shaped(len, n, numbers) {
-        return Written::Refused(Refusal::Shape, Place::Nowhere);
-    }
-    let first = rising::first_not_rising_wide(edges);
-    let answer = planned(len, n, numbers, first, 4, parcel.len());
-    let Written::Bytes(_) = answer else {
-        return answer;
-    };
-    put_word_section(parcel, 0, &memory[..n]);
-    put_wide_edge_section(parcel, 4 + n * 8, edges);
-    put_word_section(parcel, 8 + n * 8 + numbers * 4, &memory[n..]);
-    answer
-}
-
-// How many bytes an edge has: two numbers.
-fn edge_size(edition: Edition) -> usize
-    ensures { result ≡ 2 * width_of edition }
+// How many bytes an edge number has.
+fn width(edition: Edition) -> usize
+    ensures { (result ≡ width_of edition) × (result ≤ 8) }
 {
     match edition {
-        Edition::First => 4,
-        Edition::Second => 8,
+        Edition::First => 2,
+        Edition::Second => 4,
     }
 }
 
 // What reading answers where so many words and edge numbers are lent.
-fn room_for(edition: Edition, parcel: &[u8], words: usize, numbers: usize) -> Read
-    ensures { result ≡ room_for words numbers (read_of (width_of edition) parcel.now) }
+fn room_for(parcel: &[u8], width: usize, words: usize, numbers: usize) -> Result<Counts, Fault>
+    requires { width ≤ 8 }
+    ensures { result ≡ room_for words numbers (read_of width parcel.now) }
 {
-    let found = counts(edition, parcel);
-    let Read::Counts { code, edges, data } = found else {
-        return found;
-    };
-    if words < code + data {
-        return Read::Refused(Refusal::PlaceTooShort, Place::Nowhere);
+    let found = reader::held(parcel, width)?;
+    if words < found.code + found.data || numbers < found.edges * 2 {
+        return Err(Fault::nowhere(Refusal::PlaceTooShort));
     }
-    if numbers < edges * 2 {
-        return Read::Refused(Refusal::PlaceTooShort, Place::Nowhere);
-    }
-    found
+    Ok(found)
 }
 
 // The code words from 4 on, and directly after them the data words from at on, into the front of the memory.
@@ -152,51 +102,42 @@ fn memory_into(parcel: &[u8], code: usize, at: usize, words: usize, memory: &mut
     requires { (4 + code * 8 ≤ length parcel.now) × (at + words * 8 ≤ length parcel.now) × (code + words ≤ length memory.old) }
     ensures { memory.new ≡ put_over (numbers_of 8 code (drop 4 parcel.now) ++ numbers_of 8 words (drop at parcel.now)) memory.old }
 {
-    bytes::words_into(parcel, 4, code, memory);
-    bytes::words_into(parcel, at, words, &mut memory[code..]);
+    bytes::numbers_into(parcel, 4, code, memory);
+    bytes::numbers_into(parcel, at, words, &mut memory[code..]);
 }
 
 // What writing answers, where the first edge that doesn't rise is known, a number of an edge has so many bytes, and the place
 // has so much room.
-fn planned(len: usize, n: usize, numbers: usize, first: usize, width: usize, room: usize) -> Written
+fn planned(
+    len: usize,
+    n: usize,
+    numbers: usize,
+    first: Option<usize>,
+    width: usize,
+    room: usize,
+) -> Result<usize, Fault>
     requires { WellShaped len n numbers × (width ≤ 8) }
     ensures { result ≡ planned_of len n numbers first width room }
 {
-    if first < numbers / 2 {
-        return Written::Refused(Refusal::EdgeNotRising, Place::Edge(first));
+    if let Some(edge) = first {
+        return Err(Fault {
+            refusal: Refusal::EdgeNotRising,
+            place: Place::Edge(edge),
+        });
     }
     let size = 4 + n * 8 + (4 + numbers * width) + (4 + (len - n) * 8);
     if room < size {
-        return Written::Refused(Refusal::PlaceTooShort, Place::Nowhere);
+        return Err(Fault::nowhere(Refusal::PlaceTooShort));
     }
-    Written::Bytes(size)
+    Ok(size)
 }
 
-// A section of words from at on: their count, then the words.
+// A section from at on: the count of its items, which are so many numbers each, then the numbers.
 #[tactic(auto, using(crate::proofs::Sections::section_put))]
-fn put_word_section(s: &mut [u8], at: usize, xs: &[u64])
-    requires { (at + (4 + length xs.now * 8) ≤ length s.old) × (length xs.now ≤ 4096) }
-    ensures { s.new ≡ sets s.old at (section_of 8 1 xs.now) }
+fn put_section<N: InBytes>(s: &mut [u8], at: usize, each: usize, xs: &[N])
+    requires { (at + (4 + length xs.now * N.WIDTH) ≤ length s.old) × (length xs.now ≤ 4096) × (1 ≤ each) }
+    ensures { s.new ≡ sets s.old at (section_of N.WIDTH each (N.numbers xs.now)) }
 {
-    bytes::put_four(s, at, xs.len() as u32);
-    bytes::put_words(s, at + 4, xs);
-}
-
-// A section of edges from at on: their count, then their numbers.
-#[tactic(auto, using(crate::proofs::Sections::section_put))]
-fn put_edge_section(s: &mut [u8], at: usize, xs: &[u16])
-    requires { (at + (4 + length xs.now * 2) ≤ length s.old) × (length xs.now ≤ 4096) }
-    ensures { s.new ≡ sets s.old at (section_of 2 2 xs.now) }
-{
-    bytes::put_four(s, at, (xs.len() / 2) as u32);
-    bytes::put_edges(s, at + 4, xs);
-}
-
-#[tactic(auto, using(crate::proofs::Sections::section_put))]
-fn put_wide_edge_section(s: &mut [u8], at: usize, xs: &[u32])
-    requires { (at + (4 + length xs.now * 4) ≤ length s.old) × (length xs.now ≤ 4096) }
-    ensures { s.new ≡ sets s.old at (section_of 4 2 xs.now) }
-{
-    bytes::put_four(s, at, (xs.len() / 2) as u32);
-    bytes::put_wide_edges(s, at + 4, xs);
+    ((xs.len() / each) as u32).write(s, at);
+    bytes::put_numbers(s, at + 4, xs);
 }

@@ -7,11 +7,10 @@ ghost use Rattle.capi.specs.Words.{DecodeCall, encode_call};
 ghost use Rattle.capi.specs.States.{RunCall, StepCall, WriteDataCall, WriteRegisterCall, technique_of};
 ghost use Rattle.capi.specs.Checks.{CheckCall};
 ghost use Rattle.parcel.specs.Parcel.{read_of};
-ghost use Rattle.capi.specs.Parcels.{ReadCall, WriteCall, WritePlacedCall, bytes_in, write_call};
+ghost use Rattle.capi.specs.Parcels.{PutCall, ReadCall, WriteCall, WritePlacedCall};
 ghost use Rattle.report.specs.Reports.{parcel_report, report_of};
 ghost use Rattle.owner.specs.Reports.{AddCall, ReportCall};
 ghost use Rattle.editions.specs.Converters.{bytes_for, narrowed_of, widened_of};
-ghost use Rattle.wide.specs.Calls.{PutCall};
 ghost use Rattle.installer.specs.Calls.{RewriteCall};
 
 #[unsafe(no_mangle)]
@@ -110,7 +109,7 @@ pub extern "C" fn pg_write_parcel_placed(
     count: &mut [u64],
     place: &mut [u64],
 ) -> u32
-    ensures { WritePlacedCall memory.now n edges.now parcel.old count.old place.old result parcel.new count.new place.new }
+    ensures { WritePlacedCall 2 memory.now n edges.now parcel.old count.old place.old result parcel.new count.new place.new }
 {
     capi::pg_write_parcel_placed(memory, n, edges, parcel, count, place)
 }
@@ -201,7 +200,7 @@ pub extern "C" fn pg_write_wide_parcel(
     count: &mut [u64],
     place: &mut [u64],
 ) -> u32
-    ensures { PutCall (write_call 4 memory.now n edges.now) (bytes_in 4 memory.now n edges.now) parcel.old count.old place.old result parcel.new count.new place.new }
+    ensures { WritePlacedCall 4 memory.now n edges.now parcel.old count.old place.old result parcel.new count.new place.new }
 {
     wide::pg_write_wide_parcel(memory, n, edges, parcel, count, place)
 }

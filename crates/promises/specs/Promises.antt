@@ -2,8 +2,8 @@
 -- crate, and nothing is stated here anew; `proofs/Promises.antt` has the term that holds them all.
 --
 -- That every call ends, does nothing undefined and answers what its definition says is each function's own contract, in `src/`:
--- `decode` is `decode_of`, `check` and `check_wide` are `verdict_of`, `step` is `step_of`, `run` is `run_of`, `read_parcel` is `read_of 2`,
--- `read_wide_parcel` is `read_of 4`, `report` is `report_of`, `rewrite` is `rewrite_of`, and so on.
+-- `decode` is `decode_of`, `check` and `check_wide` are `verdict_of`, `step` is `step_of`, `run` is `run_of`, `read_parcel` is `read_of 2` for edge
+-- numbers of 16 bits and `read_of 4` for those of 32, `report` is `report_of`, `rewrite` is `rewrite_of`, and so on.
 use Rattle.std.specs.Prelude.{ℕ, List}
 use Rattle.isa.specs.declared.Technique.{Technique}
 use Rattle.isa.specs.Theorems.{RoundTrips}

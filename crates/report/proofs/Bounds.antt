@@ -9,13 +9,13 @@ use lib.ListN.{length}
 use lib.Dec.{eqb}
 use borrow.Author.Tests.{eqb-false}
 use Rattle.lists.proofs.Bools.{clash}
-use Rattle.answers.specs.declared.Verdict.{Verdict}
+use Rattle.std.specs.Prelude.{None, Some, Ok, Err}
+use Rattle.answers.specs.Faults.{Verdict}
 use Rattle.isa.specs.declared.Kind.{Kind}
 use Rattle.isa.specs.declared.Technique.{Technique}
 use Rattle.checker.specs.Verdicts.{verdict_of}
 use Rattle.parcel.specs.Parcel.{Content, holds, refused, read_of}
-use Rattle.report.specs.declared.Freedom.{Freedom}
-use Rattle.report.specs.Figures.{words_of_kind, distinct_edges, freedom_by, numerator_of, denominator_of, figures_of}
+use Rattle.report.specs.Figures.{words_of_kind, distinct_edges, freedom, freedom_by, numerator_of, denominator_of, figures_of}
 use Rattle.report.specs.Reports.{report_by, report_of, content_report}
 use Rattle.report.specs.Theorems.{FreedomFits, Fits, FreedomsFit}
 use Rattle.report.proofs.Held.{held}
@@ -24,11 +24,11 @@ use Rattle.report.specs.Inside.{Held}
 use Rattle.report.proofs.AsListed.{distinct_listed}
 
 module _ (memory : List ℕ) (n : ℕ) (edges : List ℕ) (all : Held memory n edges) where
-  small : (c d : ℕ) → freedom_by (words_of_kind memory n Kind.Jmp) n (distinct_edges n edges) ≡ Freedom.Of c d → FreedomFits c d
+  small : (c d : ℕ) → freedom_by (words_of_kind memory n Kind.Jmp) n (distinct_edges n edges) ≡ Some (freedom c d) → FreedomFits c d
   small = go (eqb (words_of_kind memory n Kind.Jmp) 0) refl
     where
       go : (b : Bool) → eqb (words_of_kind memory n Kind.Jmp) 0 ≡ b → (c d : ℕ)
-          → cond b Freedom.NoJumps (Freedom.Of (distinct_edges n edges) (words_of_kind memory n Kind.Jmp * n)) ≡ Freedom.Of c d
+          → cond b None (Some (freedom (distinct_edges n edges) (words_of_kind memory n Kind.Jmp * n))) ≡ Some (freedom c d)
           → FreedomFits c d
       go true e c d h = clash (cc)
       go false e c d h =
@@ -49,8 +49,8 @@ unfolding report_of figures_of
 program_fits t memory n edges = go (verdict_of t memory n edges) refl
   where
     go : (v : Verdict) → verdict_of t memory n edges ≡ v → Fits (report_by v (figures_of memory n edges))
-    go Verdict.Accepted e c d h = small memory n edges (held t memory n edges e) c d h
-    go (Verdict.Refused why place) e c d h = clash (cc)
+    go (Ok x) e c d h = small memory n edges (held t memory n edges e) c d h
+    go (Err f) e c d h = clash (cc)
 
 content_fits : (t : Technique) (x : Content) → Fits (content_report t x)
 unfolding content_report

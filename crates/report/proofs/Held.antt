@@ -10,7 +10,7 @@ use lib.ListN.{length, get_or}
 use lib.Dec.{eqb, leb}
 use borrow.Author.Tests.{eq-eqb, eqb-true, not-false}
 use Rattle.lists.proofs.Bools.{and_left, and_right, and_rest, or_right, same_bool}
-use Rattle.answers.specs.declared.Verdict.{Verdict}
+use Rattle.std.specs.Prelude.{Ok}
 use Rattle.answers.specs.Shape.{memory_shaped, edges_shaped}
 use Rattle.isa.specs.declared.Kind.{Kind}
 use Rattle.isa.specs.declared.Instr.{Instr}
@@ -31,7 +31,7 @@ use Rattle.checker.proofs.Faultless.{Faultless, accepted_faultless}
 use Rattle.checker.proofs.Equivalence.{accepted_exactly}
 use Rattle.report.specs.Inside.{number_or, label_at, Held}
 
-module _ (t : Technique) (memory : List ℕ) (n : ℕ) (edges : List ℕ) (e : verdict_of t memory n edges ≡ Verdict.Accepted) where
+module _ (t : Technique) (memory : List ℕ) (n : ℕ) (edges : List ℕ) (e : verdict_of t memory n edges ≡ Ok tt) where
   clean : Faultless t memory n edges
   clean = accepted_faultless t memory n edges e
 

@@ -1,6 +1,7 @@
 -- Target sets by their IDs: the labels with an ID are the targets of each jump that has it, so the largest set is the most frequent
 -- label, and there are as many sets as different IDs.
-use Prim.Native.Nat.{ℕ, ◌+◌, ◌-◌, ◌%◌, ◌^◌, ◌<◌, ◌≤◌}
+use Rattle.std.specs.Prelude.{Option, Some, None, ◌==◌, fold, count_by}
+use Prim.Native.Nat.{ℕ, max, ◌+◌, ◌-◌, ◌%◌, ◌^◌, ◌<◌, ◌≤◌}
 use mathlib.Core.Path.{◌≡◌, refl, sym, ap, subst, ◌∙◌}
 use mathlib.Core.Bool.{Bool, true, false, not, cond, ◌&&◌, beq}
 use mathlib.Core.List.{List}
@@ -18,30 +19,23 @@ use Rattle.isa.specs.declared.Kind.{Kind}
 use Rattle.isa.specs.Instructions.{instr_at, is_jump}
 use Rattle.graph.specs.Claim.{edge_count, is_edge, has_edge, id_of}
 use Rattle.graph.specs.Rules.{sets_differ}
-use Rattle.graph.specs.Passes.{Sized}
 use Rattle.graph.proofs.Edges.{has_edge_lem, edge_below, id_below}
 use Rattle.report.specs.declared.Freedom.{Freedom}
-use Rattle.report.specs.declared.passes.Sums.{Sums}
 use Rattle.report.specs.Figures.{words_of_kind, freedom_by, set_size, is_new_set, sets_of, highest, largest_of, figures_of}
-use Rattle.report.specs.Inside.{label_at, set_at, times_in, labels_of, jumps_of, figures_read, Readable, Held, Counted, Summable, Summed}
-use Rattle.report.proofs.Sums.{highest_ext, highest_above, highest_least, any_count, is_new, new_count}
+use Rattle.report.specs.Inside.{label_at, set_at, times_in, labels_of, jumps_of, figures_read, Readable, Held, Counted, number_or}
+use Rattle.report.proofs.Sums.{highest_ext, highest_above, highest_least, any_count, is_new, new_count, fold_highest, count_by_count}
 use Rattle.report.proofs.AsListed.{distinct_listed}
 
 -- ---- all figures, from what the passes answer
-pub summable : (memory : List ℕ) (n : ℕ) {kinds labels jumps : List ℕ} → Sized memory n → Counted memory n n kinds labels jumps
-    → Summable labels jumps n
-summable memory n s c =
-    record { limit = s.code_limit; labels_size = c.labels_counted.size; jumps_size = c.jumps_counted.size }
-
-pub figures_read_lem : (memory : List ℕ) (n listed : ℕ) {kinds labels jumps : List ℕ} {sums : Sums} {freedom : Freedom}
-    → Counted memory n n kinds labels jumps → Summed labels jumps n sums → freedom ≡ freedom_by (get_or kinds 6 0) n listed
-    → record { kinds = kinds; sets = sums.sets; largest = sums.largest; freedom = freedom } ≡ figures_read memory n listed
-figures_read_lem memory n listed {kinds} {labels} {jumps} {sums} {freedom} c t f =
-    let largest = t.largest ∙ highest_ext _ _ n c.labels_counted.each in
-    let sets = t.sets ∙ count_ext _ _ n (λ s q. ap (λ (x : ℕ). not (eqb x 0)) (c.jumps_counted.each s q)) in
-    let several : get_or kinds 6 0 ≡ words_of_kind memory n Kind.Jmp = ap (λ (xs : List ℕ). get_or xs 6 0) c.kinds_counted in
-    let same : freedom ≡ freedom_by (words_of_kind memory n Kind.Jmp) n listed = f ∙ ap (λ (j : ℕ). freedom_by j n listed) several in
-    rw (c.kinds_counted, sets, largest, same)
+pub figures_read_lem : (memory : List ℕ) (n listed : ℕ) {kinds labels jumps : List ℕ} {sets largest : ℕ} {freedom : Option Freedom}
+    → Counted memory n n kinds labels jumps → sets ≡ count_by (λ x. not (x == 0)) jumps → largest ≡ fold max 0 labels
+    → freedom ≡ freedom_by (get_or kinds 6 0) n listed
+    → record { kinds = kinds; sets = sets; largest = largest; freedom = freedom } ≡ figures_read memory n listed
+figures_read_lem memory n listed {kinds} {labels} {jumps} {sets} {largest} {freedom} c s l f =
+    let most = l ∙ fold_highest labels ∙ ap (highest (λ k. get_or labels k 0)) c.labels_counted.size ∙ highest_ext _ _ n c.labels_counted.each in
+    let several = s ∙ count_by_count (λ x. not (x == 0)) jumps ∙ ap (count (λ k. not (get_or jumps k 0 == 0))) c.jumps_counted.size ∙ count_ext _ _ n (λ k q. ap (λ (x : ℕ). not (x == 0)) (c.jumps_counted.each k q)) in
+    let same : freedom ≡ freedom_by (words_of_kind memory n Kind.Jmp) n listed = f ∙ ap (λ (xs : List ℕ). freedom_by (get_or xs 6 0) n listed) c.kinds_counted in
+    rw (c.kinds_counted, several, most, same)
 
 -- the ID of the set of j, n where j is no jump; and one more than the ID, 0 where j is none
 abbrev set_id : List ℕ → ℕ → ℕ → ℕ
@@ -58,7 +52,7 @@ module _ (memory : List ℕ) (n : ℕ) (edges : List ℕ) (h : Held memory n edg
   set_is : (j : ℕ) → j < n → set_at memory n j ≡ set_id edges n j
   set_is j l = go (is_jump (instr_at memory j)) refl
     where
-      go : (b : Bool) → is_jump (instr_at memory j) ≡ b → cond b (get_or memory (j - 3) 0 % 2 ^ 32) n ≡ set_id edges n j
+      go : (b : Bool) → is_jump (instr_at memory j) ≡ b → number_or n (cond b (Some (get_or memory (j - 3) 0 % 2 ^ 32)) None) ≡ set_id edges n j
       go true e = h.ids j l e ∙ sym (ap (λ (b : Bool). cond b (id_of edges n j) n) (sym (h.jumps j l) ∙ e))
       go false e = sym (ap (λ (b : Bool). cond b (id_of edges n j) n) (sym (h.jumps j l) ∙ e))
 

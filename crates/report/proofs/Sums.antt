@@ -1,32 +1,25 @@
 -- Sums, highest numbers and counts over the numbers below a bound: one more at a time, and counts by number.
 use Prim.Native.Nat.{ℕ, zero, suc, max, ◌+◌, ◌-◌, ◌<◌, ◌≤◌}
-use mathlib.Core.Path.{◌≡◌, refl, sym, ap, ap₂, ◌∙◌}
+use Rattle.std.specs.Prelude.{Option, fold, count_by}
+use Rattle.std.proofs.lemmas.List.{get_or-take}
+use mathlib.Core.Path.{◌≡◌, refl, sym, ap, ap₂, subst, ◌∙◌}
 use mathlib.Core.Bool.{Bool, true, false, not, cond, ◌&&◌, ◌||◌}
-use mathlib.Core.List.{List}
+use mathlib.Core.List.{List, [], ◌∷◌}
 use mathlib.Core.Logic.{⊎_elim}
 use native.Mathlib.Omega.{arith}
 use native.Mathlib.Numerals.{add-one}
 use native.Mathlib.Decide.{ℕ_discrete}
-use native.Mathlib.Nat.{le_trans, max-le, le-max_left, le-max_right, not-suc-le-zero, eq-or-lt_of_le, le_of_suc-le-suc}
+use native.Mathlib.Nat.{zero-add, le_trans, max-le, le-max_left, le-max_right, not-suc-le-zero, eq-or-lt_of_le, le_of_suc-le-suc}
 use borrow.Author.Tests.{eq-eqb, ne_eqb, ltb-true, ltb-false}
 use lib.Dec.{eqb, ltb}
-use lib.ListN.{get_or, set}
+use lib.ListN.{get_or, set, take, length, replicate, length-take, length-set, length-replicate, get_or-replicate}
+use lib.Seq.{get_or-set_same, get_or-set_other}
 use Rattle.lists.specs.Search.{any, bit, count}
-use Rattle.lists.specs.Tables.{Table}
 use Rattle.lists.proofs.Counts.{count_zero, count_ext, count_max, count_flip}
-use Rattle.lists.proofs.Tables.{table_as, table_set}
 use Rattle.report.specs.Figures.{highest, total}
-use Rattle.report.specs.Inside.{times_in, one_more}
+use Rattle.report.specs.Inside.{number_or, times_in, one_more, Tally}
 
 -- ---- one more at a time
-pub highest_none : (f : ℕ → ℕ) → 0 ≡ highest f 0
-unfolding highest
-highest_none f = refl
-
-pub highest_more : (f : ℕ → ℕ) (k : ℕ) → highest f (k + 1) ≡ max (f k) (highest f k)
-unfolding highest
-highest_more f k = rw add-one
-
 pub times_none : (f : ℕ → ℕ) (s : ℕ) → 0 ≡ times_in f 0 s
 unfolding times_in count
 times_none f s = refl
@@ -91,25 +84,89 @@ total_one x (suc n) l =
     (eq-or-lt_of_le (le_of_suc-le-suc l))
 
 -- ---- counts by number
--- an array of such counts: one number more
-pub times_step : (f : ℕ → ℕ) (xs : List ℕ) (n a s : ℕ) {xs' : List ℕ} → n ≤ 2048 → Table xs n (times_in f a) → s ≡ f a
-    → xs' ≡ one_more xs n s → Table xs' n (times_in f (a + 1))
-times_step f xs n a s limit h e so = rw so (go (ltb s n) refl)
+-- such counts: none, said in another way, and of one number more
+pub tally_new : (n : ℕ) → n ≤ 2048 → Tally (take n (replicate 2048 0)) n (λ _. 0)
+tally_new n l =
+    record {
+      size = length-take n (replicate 2048 0) ∙ omega (arith, length-replicate {A = ℕ} 2048 0);
+      each = λ j q. get_or-take n (replicate 2048 0) j 0 q ∙ get_or-replicate {A = ℕ} 2048 j 0 0 (omega arith);
+    }
+
+pub tally_as : {xs : List ℕ} {n : ℕ} {F : ℕ → ℕ} (G : ℕ → ℕ) → Tally xs n F → ((j : ℕ) → j < n → F j ≡ G j) → Tally xs n G
+tally_as G h e = record { size = h.size; each = λ j l. h.each j l ∙ e j l }
+
+tally_set : {xs : List ℕ} {n : ℕ} {F : ℕ → ℕ} (G : ℕ → ℕ) (i v : ℕ) → Tally xs n F → i < n → v ≡ G i
+    → ((j : ℕ) → j < n → (j ≡ i → ⊥) → F j ≡ G j) → Tally (set xs i v) n G
+tally_set {xs} {n} {F} G i v h l e o =
+    record { size = length-set xs i v ∙ h.size; each = λ j q. go j q (ℕ_discrete j i) }
+  where
+    go : (j : ℕ) → j < n → Dec (j ≡ i) → get_or (set xs i v) j 0 ≡ G j
+    go j q (yes p) =
+        subst (λ (x : ℕ). get_or (set xs i v) x 0 ≡ G x) (sym p)
+        (get_or-set_same xs i v 0 (let z = h.size in omega arith) ∙ e)
+    go j q (no p) = get_or-set_other xs i j v 0 p ∙ h.each j q ∙ o j q p
+
+times_step : (f : ℕ → ℕ) (xs : List ℕ) (n a s : ℕ) {xs' : List ℕ} → Tally xs n (times_in f a) → s ≡ f a
+    → xs' ≡ one_more xs s → Tally xs' n (times_in f (a + 1))
+times_step f xs n a s h e so = rw so (go (ltb s (length xs)) refl)
   where
     other : (j : ℕ) → (f a ≡ j → ⊥) → times_in f a j ≡ times_in f (a + 1) j
     other j ne = omega (arith, times_more f a j ∙ ap (λ (b : Bool). bit b + times_in f a j) (ne_eqb (f a) j ne))
 
-    go : (b : Bool) → ltb s n ≡ b → Table (cond b (set xs s (get_or xs s 0 + 1)) xs) n (times_in f (a + 1))
+    go : (b : Bool) → ltb s (length xs) ≡ b → Tally (cond b (set xs s (get_or xs s 0 + 1)) xs) n (times_in f (a + 1))
     go true p =
-        let l = ltb-true s n p in
-        table_set (times_in f (a + 1)) s (get_or xs s 0 + 1) h (omega arith)
+        let l : s < n = omega (arith, ltb-true s (length xs) p, h.size) in
+        tally_set (times_in f (a + 1)) s (get_or xs s 0 + 1) h l
         (omega (arith, h.each s l, times_more f a s ∙ ap (λ (b : Bool). bit b + times_in f a s) (eq-eqb (f a) s (sym e))))
         (λ j q ne. other j (λ z. ne (omega arith)))
-    go false p = let l = ltb-false s n p in table_as (times_in f (a + 1)) h (λ j q. other j (λ z. omega arith))
+    go false p =
+        let l : n ≤ s = omega (arith, ltb-false s (length xs) p, h.size) in
+        tally_as (times_in f (a + 1)) h (λ j q. other j (λ z. omega arith))
 
-pub times_room : (f : ℕ → ℕ) (xs : List ℕ) (n a : ℕ) → a ≤ 2048 → Table xs n (times_in f a) → (s : ℕ) → s < n → get_or xs s 0 < 65535
+-- the number that the word at a has, if it has one
+pub times_next : (f : ℕ → Option ℕ) (xs : List ℕ) (n a : ℕ) (v : Option ℕ) {xs' : List ℕ} → Tally xs n (times_in (λ i. number_or n (f i)) a)
+    → v ≡ f a → xs' ≡ one_more xs (number_or (length xs) v) → Tally xs' n (times_in (λ i. number_or n (f i)) (a + 1))
+times_next f xs n a v h e so =
+    times_step (λ i. number_or n (f i)) xs n a (number_or (length xs) v) h (ap (λ (k : ℕ). number_or k v) h.size ∙ ap (number_or n) e) so
+
+pub times_room : (f : ℕ → ℕ) (xs : List ℕ) (n a : ℕ) → a ≤ 2048 → Tally xs n (times_in f a)
+    → (s : ℕ) → s < length xs → get_or xs s 0 < 65535
 unfolding times_in
-times_room f xs n a l h s q = omega (arith, h.each s q, count_max (λ i. eqb (f i) s) a)
+times_room f xs n a l h s q = omega (arith, h.each s (omega (arith, h.size)), count_max (λ i. eqb (f i) s) a)
+
+-- what chains over such counts answer
+highest_front : (f : ℕ → ℕ) (n : ℕ) → highest f (suc n) ≡ max (f 0) (highest (λ k. f (suc k)) n)
+unfolding highest
+highest_front f zero = refl
+highest_front f (suc n) = omega (arith, highest_front f n)
+
+fold_max : (xs : List ℕ) (m : ℕ) → fold max m xs ≡ max m (highest (λ k. get_or xs k 0) (length xs))
+unfolding highest
+fold_max [] m = let e : m ≡ max m 0 = omega arith in e
+fold_max (x ∷ xs) m = fold_max xs (max m x) ∙ omega (arith, highest_front (λ k. get_or (x ∷ xs) k 0) (length xs))
+
+pub fold_highest : (xs : List ℕ) → fold max 0 xs ≡ highest (λ k. get_or xs k 0) (length xs)
+fold_highest xs = omega (arith, fold_max xs 0)
+
+count_front : (f : ℕ → Bool) (n : ℕ) → count f (suc n) ≡ bit (f 0) + count (λ k. f (suc k)) n
+unfolding count
+count_front f zero = refl
+count_front f (suc n) = omega (arith, count_front f n)
+
+count_from : (p : ℕ → Bool) (xs : List ℕ) (m : ℕ)
+    → fold (λ (a : ℕ) (x : ℕ). a + cond (p x) 1 0) m xs ≡ m + count (λ k. p (get_or xs k 0)) (length xs)
+unfolding count
+count_from p [] m = let e : m ≡ m + 0 = omega arith in e
+count_from p (x ∷ xs) m =
+    count_from p xs (m + cond (p x) 1 0)
+    ∙ omega (arith, flag (p x), count_front (λ k. p (get_or (x ∷ xs) k 0)) (length xs))
+  where
+    flag : (b : Bool) → cond b 1 0 ≡ bit b
+    flag true = refl
+    flag false = refl
+
+pub count_by_count : (p : ℕ → Bool) (xs : List ℕ) → count_by p xs ≡ count (λ k. p (get_or xs k 0)) (length xs)
+count_by_count p xs = count_from p xs 0 ∙ zero-add (count (λ k. p (get_or xs k 0)) (length xs))
 
 -- ---- numbers that are new: other than 0, and no earlier one is the same. There are as many as different numbers occur
 abbrev pub is_new : (ℕ → ℕ) → ℕ → Bool

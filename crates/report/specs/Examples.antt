@@ -1,17 +1,16 @@
 -- The definitions say something: reports on the post program, on two jumps that share a target set, and on a program without jumps.
 -- `proofs/Examples.antt` has the proof.
-use Rattle.std.specs.Prelude.{ℕ, ◌≡◌, List, [], ◌∷◌, ◌++◌, map}
+use Rattle.std.specs.Prelude.{ℕ, ◌≡◌, List, [], ◌∷◌, ◌++◌, map, None, Some, Ok, Err}
 use Rattle.answers.specs.declared.Refusal.{Refusal}
 use Rattle.answers.specs.declared.Place.{Place}
-use Rattle.answers.specs.declared.Verdict.{Verdict}
+use Rattle.answers.specs.Faults.{fault}
 use Rattle.isa.specs.declared.Instr.{Instr}
 use Rattle.isa.specs.declared.Technique.{Technique}
 use Rattle.isa.specs.Words.{encode_of}
 use Rattle.isa.specs.PostProgram.{post_code, post_edges}
-use Rattle.report.specs.declared.Freedom.{Freedom}
 use Rattle.report.specs.declared.Figures.{Figures}
-use Rattle.report.specs.declared.Answer.{Answer}
-use Rattle.report.specs.Reports.{refused_report, report_of}
+use Rattle.report.specs.Figures.{freedom}
+use Rattle.report.specs.Reports.{report_of}
 
 -- one label, one addi, two movi, two bgt, one jmp, one ld, one illegal word; one set of one target; 1 of 9
 abbrev pub post_figures : Figures
@@ -20,7 +19,7 @@ post_figures =
       kinds = 1 ∷ 0 ∷ 1 ∷ 2 ∷ 2 ∷ 0 ∷ 1 ∷ 1 ∷ 0 ∷ 1 ∷ [];
       sets = 1;
       largest = 1;
-      freedom = Freedom.Of 1 9;
+      freedom = Some (freedom 1 9);
     }
 
 -- two guarded jumps, at 5 and 11, to the one label at 12
@@ -38,7 +37,7 @@ shared_figures =
       kinds = 1 ∷ 0 ∷ 2 ∷ 2 ∷ 4 ∷ 0 ∷ 2 ∷ 2 ∷ 0 ∷ 1 ∷ [];
       sets = 1;
       largest = 1;
-      freedom = Freedom.Of 2 28;
+      freedom = Some (freedom 2 28);
     }
 
 -- one illegal word
@@ -48,21 +47,18 @@ halt_figures =
       kinds = 0 ∷ 0 ∷ 0 ∷ 0 ∷ 0 ∷ 0 ∷ 0 ∷ 0 ∷ 0 ∷ 1 ∷ [];
       sets = 0;
       largest = 0;
-      freedom = Freedom.NoJumps;
+      freedom = None;
     }
 
-abbrev pub accepted_with : Figures → Answer
-accepted_with figures = record { verdict = Verdict.Accepted; figures = figures }
-
 pub record ReportsShown : Type 0 where
-  pub post : report_of Technique.Plain post_code 9 post_edges ≡ accepted_with post_figures
+  pub post : report_of Technique.Plain post_code 9 post_edges ≡ Ok post_figures
   -- its edge listed twice: 18 at edge 1
-  pub repeated : report_of Technique.Plain post_code 9 (post_edges ++ post_edges) ≡ refused_report Refusal.EdgeNotRising (Place.Edge 1)
+  pub repeated : report_of Technique.Plain post_code 9 (post_edges ++ post_edges) ≡ Err (fault Refusal.EdgeNotRising (Place.Edge 1))
   -- equal sets counted once
-  pub shared : report_of Technique.Plain shared_code 14 (5 ∷ 12 ∷ 11 ∷ 12 ∷ []) ≡ accepted_with shared_figures
+  pub shared : report_of Technique.Plain shared_code 14 (5 ∷ 12 ∷ 11 ∷ 12 ∷ []) ≡ Ok shared_figures
   -- the same graph in another sequence: 18 at edge 1
-  pub turned : report_of Technique.Plain shared_code 14 (11 ∷ 12 ∷ 5 ∷ 12 ∷ []) ≡ refused_report Refusal.EdgeNotRising (Place.Edge 1)
+  pub turned : report_of Technique.Plain shared_code 14 (11 ∷ 12 ∷ 5 ∷ 12 ∷ []) ≡ Err (fault Refusal.EdgeNotRising (Place.Edge 1))
   -- the post program with memory guards is refused: 14 at 6
-  pub refused : report_of Technique.MemoryGuards post_code 9 post_edges ≡ refused_report Refusal.JumpUnguarded (Place.Address 6)
+  pub refused : report_of Technique.MemoryGuards post_code 9 post_edges ≡ Err (fault Refusal.JumpUnguarded (Place.Address 6))
   -- no jumps
-  pub halt : report_of Technique.Plain (0xffffffffffffffff ∷ []) 1 [] ≡ accepted_with halt_figures
+  pub halt : report_of Technique.Plain (0xffffffffffffffff ∷ []) 1 [] ≡ Ok halt_figures

@@ -1,5 +1,5 @@
 -- The figures of a program (document 02, K1): its words by their kinds, its target sets, and the freedom of its computed jumps.
-use Rattle.std.specs.Prelude.{ℕ, zero, suc, max, ◌+◌, ◌*◌, Bool, not, cond, ◌&&◌, List, [], ◌∷◌, map, eqb}
+use Rattle.std.specs.Prelude.{ℕ, zero, suc, max, ◌+◌, ◌*◌, Bool, not, cond, ◌&&◌, List, [], ◌∷◌, map, eqb, Option, None, Some}
 use Rattle.lists.specs.Search.{any, count}
 use Rattle.isa.specs.declared.Kind.{Kind}
 use Rattle.isa.specs.Instructions.{instr_at, is_kind, is_jump}
@@ -51,21 +51,24 @@ largest_of n edges = highest (set_size edges n) n
 abbrev pub distinct_edges : ℕ → List ℕ → ℕ
 distinct_edges n edges = total (set_size edges n) n
 
--- "Freedom is two whole numbers: the distinct edges, and jumps times code words; without jumps it is left out"
-abbrev pub freedom_by : ℕ → ℕ → ℕ → Freedom
-freedom_by jumps n edges = cond (eqb jumps 0) Freedom.NoJumps (Freedom.Of edges (jumps * n))
+abbrev pub freedom : ℕ → ℕ → Freedom
+freedom edges possible = record { edges = edges; possible = possible }
 
-abbrev pub freedom_of : List ℕ → ℕ → List ℕ → Freedom
+-- "Freedom is two whole numbers: the distinct edges, and jumps times code words; without jumps it is left out"
+abbrev pub freedom_by : ℕ → ℕ → ℕ → Option Freedom
+freedom_by jumps n edges = cond (eqb jumps 0) None (Some (freedom edges (jumps * n)))
+
+abbrev pub freedom_of : List ℕ → ℕ → List ℕ → Option Freedom
 freedom_of memory n edges = freedom_by (words_of_kind memory n Kind.Jmp) n (distinct_edges n edges)
 
 -- the two numbers of a freedom, 0 where it is left out
-abbrev pub numerator_of : Freedom → ℕ
-numerator_of Freedom.NoJumps = 0
-numerator_of (Freedom.Of edges possible) = edges
+abbrev pub numerator_of : Option Freedom → ℕ
+numerator_of None = 0
+numerator_of (Some f) = f.edges
 
-abbrev pub denominator_of : Freedom → ℕ
-denominator_of Freedom.NoJumps = 0
-denominator_of (Freedom.Of edges possible) = possible
+abbrev pub denominator_of : Option Freedom → ℕ
+denominator_of None = 0
+denominator_of (Some f) = f.possible
 
 unfoldable pub figures_of : List ℕ → ℕ → List ℕ → Figures
 figures_of memory n edges =

@@ -1,41 +1,34 @@
 -- What the private passes of this crate leave in their arrays and rely on. Nothing that is promised outside cites these.
-use Rattle.std.specs.Prelude.{ℕ, ◌+◌, ◌-◌, ◌%◌, ◌^◌, ◌<◌, ◌≤◌, ◌≡◌, true, not, cond, List, length, get_or, set, eqb, ltb}
-use Rattle.std.proofs.Math.Option.{Option, none, some}
+use Rattle.std.specs.Prelude.{ℕ, min, ◌+◌, ◌-◌, ◌%◌, ◌^◌, ◌<◌, ◌≤◌, ◌≡◌, true, not, cond, List, length, get_or, set, eqb, ltb, Option, None, Some}
 use Rattle.lists.specs.Search.{count}
-use Rattle.lists.specs.Tables.{Table}
 use Rattle.isa.specs.declared.Kind.{Kind}
+use Rattle.isa.specs.Words.{opcode_of}
 use Rattle.isa.specs.Instructions.{instr_at, is_jump, label_number}
 use Rattle.graph.specs.Claim.{is_edge, has_edge, id_of}
 use Rattle.graph.specs.Passes.{Sized, Within}
 use Rattle.rising.specs.Rising.{Rising}
-use Rattle.report.specs.declared.passes.Sums.{Sums}
 use Rattle.report.specs.declared.Figures.{Figures}
 use Rattle.report.specs.Figures.{words_of_kind, kinds_of, highest, freedom_by}
 
--- a kind's place in `table_kinds`
+-- a kind's place in `table_kinds`: its opcode, illegal words last
 abbrev pub row_of : Kind → ℕ
-row_of Kind.Label = 0
-row_of Kind.Add = 1
-row_of Kind.Addi = 2
-row_of Kind.Movi = 3
-row_of Kind.Bgt = 4
-row_of Kind.Jd = 5
-row_of Kind.Jmp = 6
-row_of Kind.Ld = 7
-row_of Kind.St = 8
-row_of Kind.Unknown = 9
+row_of kind = min (opcode_of kind) 9
 
--- the number of a label, or n where there is none
+-- a number below n, or n where there is none
 abbrev pub number_or : ℕ → Option ℕ → ℕ
-number_or n none = n
-number_or n (some w) = w
+number_or n None = n
+number_or n (Some w) = w
 
+-- the number of the label at a
 abbrev pub label_at : List ℕ → ℕ → ℕ → ℕ
 label_at memory n a = number_or n (label_number (instr_at memory a))
 
--- the ID that the guard of the jump at j holds, n where no jump is
+-- the ID that the guard of the jump at j holds, if a jump is there
+abbrev pub set_number : List ℕ → ℕ → Option ℕ
+set_number memory j = cond (is_jump (instr_at memory j)) (Some (get_or memory (j - 3) 0 % 2 ^ 32)) None
+
 abbrev pub set_at : List ℕ → ℕ → ℕ → ℕ
-set_at memory n j = cond (is_jump (instr_at memory j)) (get_or memory (j - 3) 0 % 2 ^ 32) n
+set_at memory n j = number_or n (set_number memory j)
 
 -- how many of the first a numbers of f are s
 unfoldable pub times_in : (ℕ → ℕ) → ℕ → ℕ → ℕ
@@ -75,22 +68,17 @@ pub record Held (memory : List ℕ) (n : ℕ) (edges : List ℕ) : Type 0 where
   pub labels : (j t : ℕ) → has_edge edges j ≡ true → t < n → is_edge edges j t ≡ eqb (label_at memory n t) (id_of edges n j)
   pub used : (t : ℕ) → t < n → label_at memory n t < n → (j : ℕ) × (is_edge edges j t ≡ true)
 
--- one more of s in an array of counts, where s is below n
-abbrev pub one_more : List ℕ → ℕ → ℕ → List ℕ
-one_more xs n s = cond (ltb s n) (set xs s (get_or xs s 0 + 1)) xs
+-- counts by number: how many there are of each number below n
+pub record Tally (xs : List ℕ) (n : ℕ) (value : ℕ → ℕ) : Type 0 where
+  pub size : length xs ≡ n
+  pub each : (j : ℕ) → j < n → get_or xs j 0 ≡ value j
+
+-- one more of s, where s is one of the numbers that are counted
+abbrev pub one_more : List ℕ → ℕ → List ℕ
+one_more xs s = cond (ltb s (length xs)) (set xs s (get_or xs s 0 + 1)) xs
 
 -- the first a words counted: by kind, the labels by number, the jumps by ID
 pub record Counted (memory : List ℕ) (n a : ℕ) (kinds labels jumps : List ℕ) : Type 0 where
   pub kinds_counted : kinds ≡ kinds_of memory a
-  pub labels_counted : Table labels n (times_in (label_at memory n) a)
-  pub jumps_counted : Table jumps n (times_in (set_at memory n) a)
-
--- counts by number, the first n of 2,048
-pub record Summable (labels jumps : List ℕ) (n : ℕ) : Type 0 where
-  pub limit : n ≤ 2048
-  pub labels_size : length labels ≡ 2048
-  pub jumps_size : length jumps ≡ 2048
-
-pub record Summed (labels jumps : List ℕ) (n : ℕ) (r : Sums) : Type 0 where
-  pub largest : r.largest ≡ highest (λ s. get_or labels s 0) n
-  pub sets : r.sets ≡ count (λ s. not (eqb (get_or jumps s 0) 0)) n
+  pub labels_counted : Tally labels n (times_in (label_at memory n) a)
+  pub jumps_counted : Tally jumps n (times_in (set_at memory n) a)

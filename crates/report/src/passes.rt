@@ -1,170 +1,123 @@
 // The figures of a program that the checker has accepted, read off its words, in time linear in them. Each address of a target
 // set holds a label with the set's ID, and no other address holds a label, so the labels with a number are the targets of a set;
 // and the guard of each jump holds its set's ID, in the movi three words before the jmp.
-ghost use Rattle.std.specs.Prelude.{◌≡◌, not, max, ◌+◌, ◌<◌, ◌≤◌, eqb, length, get_or};
-ghost use Rattle.lists.specs.Search.{bit};
-ghost use Rattle.lists.specs.Tables.{Table};
-ghost use Rattle.graph.specs.Passes.{Sized, Is};
+ghost use Rattle.std.specs.Prelude.{ℕ, ◌≡◌, ◌==◌, not, max, ◌+◌, ◌<◌, ◌≤◌, length, get_or, fold, count_by};
 ghost use Rattle.report.specs.Figures.{kinds_of, freedom_by};
-ghost use Rattle.report.specs.Inside.{row_of, label_at, set_at, one_more, Readable, Counted, Summable, Summed, figures_read};
+ghost use Rattle.report.specs.Inside.{Readable, Tally, Counted, number_or, set_number, one_more, figures_read};
 
 use crate::{Figures, Freedom};
-use isa::{Kind, is_a, kind_of_word};
+use isa::{Kind, is_a, kind_of_word, label_number};
 
-// The size of the largest target set of the jumps, and how many sets they have.
+// The code of an accepted program, the first n words of its memory.
 #[derive(Clone, Copy)]
-struct Sums {
-    largest: u16,
-    sets: u16,
+struct Code<'a> {
+    memory: &'a [u64],
+    n: usize,
+    ghost readable: { Readable memory.now n },
 }
 
 // The edges of an accepted program are distinct as they are listed.
-#[tactic(auto, using(lists::proofs::Tables::table_new, crate::proofs::Sets::summable, crate::proofs::Sets::figures_read_lem))]
-#[inline(never)]
 pub(crate) fn figures(memory: &[u64], n: usize, listed: usize) -> Figures
     requires { Readable memory.now n × (listed ≤ 65535) }
     ensures { result ≡ figures_read memory.now n listed }
 {
-    let mut labels = [0u16; 2048];
-    let mut jumps = [0u16; 2048];
-    let kinds = count_words(memory, n, &mut labels, &mut jumps);
-    let sums = sum_up(&labels, &jumps, n);
-    let freedom = freedom_of(kinds[6], n, listed);
-    Figures {
-        kinds: kinds,
-        sets: sums.sets,
-        largest: sums.largest,
-        freedom: freedom,
+    let code = Code { memory, n };
+    code.figures(listed)
+}
+
+impl Code<'_> {
+    #[tactic(auto, using(crate::proofs::Sums::tally_new))]
+    #[inline(never)]
+    fn figures(&self, listed: usize) -> Figures
+        requires { listed ≤ 65535 }
+        ensures { result ≡ figures_read self.now.memory.now self.now.n listed }
+    {
+        let mut label_room = [0u16; 2048];
+        let mut jump_room = [0u16; 2048];
+        let labels = &mut label_room[..self.n];
+        let jumps = &mut jump_room[..self.n];
+        let kinds = self.count_words(labels, jumps);
+        Figures {
+            kinds,
+            sets: how_many(jumps),
+            largest: highest(labels),
+            freedom: freedom_of(kinds[6], self.n, listed),
+        }
+    }
+
+    // Counts the words by their kinds, the labels by their numbers, and the jumps by the IDs of their sets.
+    #[tactic(auto, using(crate::proofs::Sums::tally_as, crate::proofs::ByKind::kinds_none, crate::proofs::Sums::times_none))]
+    fn count_words(&self, labels: &mut [u16], jumps: &mut [u16]) -> [u16; 10]
+        requires { Tally labels.old self.now.n (λ _. 0) × Tally jumps.old self.now.n (λ _. 0) }
+        ensures { Counted self.now.memory.now self.now.n self.now.n result labels.new jumps.new }
+    {
+        let mut kinds = [0u16; 10];
+        for a in 0..self.n {
+            self.count_kind(&mut kinds, a);
+            count_one(labels, label_number(self.memory[a]));
+            count_one(jumps, self.set_number(a));
+        }
+        kinds
+    }
+
+    // Counts the word at a, after those before it: an opcode is its kind's place, and illegal words are last.
+    #[tactic(auto, using(crate::proofs::ByKind::row_count, crate::proofs::ByKind::kind_max, crate::proofs::ByKind::kinds_step))]
+    fn count_kind(&self, kinds: &mut [u16; 10], a: usize)
+        requires { (a < self.now.n) × (kinds.old ≡ kinds_of self.now.memory.now a) }
+        ensures { kinds.new ≡ kinds_of self.now.memory.now (a + 1) }
+    {
+        let opcode = u8::from(kind_of_word(self.memory[a]));
+        kinds[usize::from(opcode.min(9))] += 1;
+    }
+
+    // The ID of the set of the jump at j, by its guard, if a jump is there.
+    fn set_number(&self, j: usize) -> Option<usize>
+        requires { j < self.now.n }
+        ensures { result ≡ set_number self.now.memory.now j }
+    {
+        if is_a(Kind::Jmp, self.memory[j]) {
+            return Some((self.memory[j - 3] % 0x1_0000_0000) as usize);
+        }
+        None
     }
 }
 
-// Counts the words by their kinds, the labels by their numbers, and the jumps by the IDs of their sets.
-#[tactic(auto, using(lists::proofs::Tables::table_as, crate::proofs::ByKind::kinds_none, crate::proofs::Sums::times_none, crate::proofs::Sums::times_room, crate::proofs::Sums::times_step))]
-fn count_words(
-    memory: &[u64],
-    n: usize,
-    labels: &mut [u16; 2048],
-    jumps: &mut [u16; 2048],
-) -> [u16; 10]
-    requires { Readable memory.now n × Table labels.old n (λ _. 0) × Table jumps.old n (λ _. 0) }
-    ensures { Counted memory.now n n result labels.new jumps.new }
+// One more of this number, if it is one of those that are counted.
+fn count_one(counts: &mut [u16], number: Option<usize>)
+    requires { (s : ℕ) → s < length counts.old → get_or counts.old s 0 < 65535 }
+    ensures { counts.new ≡ one_more counts.old (number_or (length counts.old) number) }
 {
-    let mut kinds = [0u16; 10];
-    let mut a = 0;
-    while a < n {
-        count_kind(&mut kinds, memory, n, a);
-        count_at(labels, n, label_at(memory, n, a));
-        count_at(jumps, n, set_at(memory, n, a));
-        a += 1;
-    }
-    kinds
-}
-
-// Counts the word at a, after those before it.
-#[tactic(auto, using(crate::proofs::ByKind::row_count, crate::proofs::ByKind::kind_max, crate::proofs::ByKind::kinds_step))]
-fn count_kind(kinds: &mut [u16; 10], memory: &[u64], n: usize, a: usize)
-    requires { Sized memory.now n × (a < n) × (kinds.old ≡ kinds_of memory.now a) }
-    ensures { kinds.new ≡ kinds_of memory.now (a + 1) }
-{
-    let row = row_of(kind_of_word(memory[a]));
-    let v = kinds[row] + 1;
-    kinds[row] = v;
-}
-
-fn row_of(kind: Kind) -> usize
-    ensures { Is result (row_of kind) 10 }
-{
-    match kind {
-        Kind::Label => 0,
-        Kind::Add => 1,
-        Kind::Addi => 2,
-        Kind::Movi => 3,
-        Kind::Bgt => 4,
-        Kind::Jd => 5,
-        Kind::Jmp => 6,
-        Kind::Ld => 7,
-        Kind::St => 8,
-        Kind::Unknown => 9,
+    if let Some(s) = number {
+        if s < counts.len() {
+            counts[s] += 1;
+        }
     }
 }
 
-// The number of the label at a, n where none is.
-#[tactic(auto, using(isa::proofs::ByKind::no_label, isa::proofs::ByKind::label_low))]
-fn label_at(memory: &[u64], n: usize, a: usize) -> usize
-    requires { (a < n) × (n ≤ length memory.now) }
-    ensures { result ≡ label_at memory.now n a }
+// How many of the numbers occur: as many sets as there are IDs of jumps.
+fn how_many(counts: &[u16]) -> u16
+    requires { length counts.now ≤ 2048 }
+    ensures { result ≡ count_by (λ x. not (x == 0)) counts.now }
 {
-    let word = memory[a];
-    if is_a(Kind::Label, word) {
-        return (word % 0x1_0000_0000) as usize;
-    }
-    n
-}
-
-// The ID of the set of the jump at j, by its guard; n where no jump is.
-fn set_at(memory: &[u64], n: usize, j: usize) -> usize
-    requires { Readable memory.now n × (j < n) }
-    ensures { result ≡ set_at memory.now n j }
-{
-    if is_a(Kind::Jmp, memory[j]) {
-        return (memory[j - 3] % 0x1_0000_0000) as usize;
-    }
-    n
-}
-
-// One more of the number s, if it is below n.
-fn count_at(xs: &mut [u16; 2048], n: usize, s: usize)
-    requires { (n ≤ 2048) × (length xs.old ≡ 2048) × (s < n → get_or xs.old s 0 < 65535) }
-    ensures { xs.new ≡ one_more xs.old n s }
-{
-    if n <= s {
-        return;
-    }
-    let v = xs[s] + 1;
-    xs[s] = v;
+    counts.iter().filter(|x| **x != 0).count() as u16
 }
 
 // A set has as many targets as there are labels with its ID.
-#[tactic(auto, using(lists::proofs::Counts::count_none, lists::proofs::Counts::count_more, lists::proofs::Counts::count_max, crate::proofs::Sums::highest_none, crate::proofs::Sums::highest_more))]
-fn sum_up(labels: &[u16; 2048], jumps: &[u16; 2048], n: usize) -> Sums
-    requires { Summable labels.now jumps.now n }
-    ensures { Summed labels.now jumps.now n result }
+fn highest(counts: &[u16]) -> u16
+    ensures { result ≡ fold max 0 counts.now }
 {
-    let mut largest = 0u16;
-    let mut sets = 0u16;
-    let mut s = 0;
-    while s < n {
-        let targets = labels[s];
-        let sharing = jumps[s];
-        largest = higher(targets, largest);
-        sets = sets + some(sharing);
-        s += 1;
-    }
-    Sums {
-        largest: largest,
-        sets: sets,
-    }
+    counts.iter().fold(0u16, |most, x| most.max(*x))
 }
 
-// 1 unless x is 0.
-fn some(x: u16) -> u16
-    ensures { result ≡ bit (not (eqb x 0)) }
-{
-    if x == 0 { 0 } else { 1 }
-}
-
-fn higher(a: u16, b: u16) -> u16
-    ensures { result ≡ max a b }
-{
-    if a < b { b } else { a }
-}
-
-fn freedom_of(jumps: u16, n: usize, edges: usize) -> Freedom
+fn freedom_of(jumps: u16, n: usize, edges: usize) -> Option<Freedom>
     requires { (n ≤ 2048) × (edges ≤ 65535) }
     ensures { result ≡ freedom_by jumps n edges }
 {
     if jumps == 0 {
-        return Freedom::NoJumps;
+        return None;
     }
-    Freedom::Of(edges as u32, jumps as u32 * n as u32)
+    Some(Freedom {
+        edges: edges as u32,
+        possible: u32::from(jumps) * n as u32,
+    })
 }

@@ -1,7 +1,8 @@
 -- What the writing of a block comes to: the label, by the owner of the address, and then what stands for the word, by what it is.
 use Prim.Native.Nat.{ℕ, suc, ◌+◌, ◌-◌, ◌*◌, ◌/◌, ◌%◌, ◌^◌, ◌<◌, ◌≤◌}
 use mathlib.Core.Path.{◌≡◌, refl, sym, ap, ◌∙◌}
-use mathlib.Core.Bool.{Bool, true, false}
+use mathlib.Core.Bool.{Bool, true, false, ◌||◌}
+use mathlib.Core.Logic.{◌⊎◌, inl, inr}
 use mathlib.Core.List.{List, [], ◌∷◌}
 use native.Mathlib.Omega.{arith}
 use lib.Dec.{ltb}
@@ -12,18 +13,28 @@ use Rattle.lists.specs.Search.{bit}
 use Rattle.lists.proofs.Bools.{and_rest}
 use Rattle.lists.proofs.Places.{sets_append}
 use Rattle.isa.specs.declared.Instr.{Instr}
+use Rattle.isa.specs.declared.Kind.{Kind}
 use Rattle.isa.specs.declared.Technique.{Technique}
-use Rattle.isa.specs.Words.{fields_of, encode_of}
+use Rattle.isa.specs.Words.{same_kind, fields_of, encode_of}
 use Rattle.isa.specs.Instructions.{instr_at, is_jump, is_branch}
 use Rattle.graph.specs.Claim.{is_destination, id_of}
 use Rattle.graph.proofs.Edges.{id_below}
 use Rattle.guards.specs.Patterns as patterns
 use Rattle.guarded.specs.Rewrite.{body_size, with_target, jump_words, store_words, word_moved, label_of, set_of, label_at, block_at}
 use Rattle.guarded.proofs.Cases.{at_jump, at_other}
-use Rattle.guarded.proofs.Places.{label_length, map_next, map_le}
+use Rattle.guarded.proofs.Places.{label_length, map_next, map_le, map_lt}
 use Rattle.rewrite.specs.Inside.{map_plain, length_plain, body_plain, block_plain, Ready, Labelled}
 use Rattle.rewrite.proofs.TargetSets.{owner_is, destined}
-use Rattle.rewrite.proofs.Moved.{branch_w, target_low, guard_words}
+use Rattle.rewrite.proofs.Moved.{branch_w, branch_moved, target_low, guard_words}
+
+-- what the kind of a word tells
+pub jump_kind : {k k' : Kind} → k ≡ k' → k ≡ Kind.Jmp → same_kind Kind.Jmp k' ≡ true
+jump_kind e h = ap (same_kind Kind.Jmp) (sym e ∙ h)
+
+pub branch_kind : {k k' : Kind} → k ≡ k' → (k ≡ Kind.Bgt) ⊎ (k ≡ Kind.Jd)
+    → (same_kind Kind.Jmp k' ≡ false) × ((same_kind Kind.Bgt k' || same_kind Kind.Jd k') ≡ true)
+branch_kind e (inl h) = rw (sym e ∙ h) (refl, refl)
+branch_kind e (inr h) = rw (sym e ∙ h) (refl, refl)
 
 pub jump_room : (i : Instr) → is_jump i ≡ true → body_size Technique.Plain i ≡ 6
 jump_room i j = at_jump Technique.Plain i 6 6 1 j
@@ -76,17 +87,27 @@ module _ (memory : List ℕ) (n : ℕ) (edges : List ℕ) (total : ℕ) (entries
       ∙ ap (λ (m : ℕ). jump_words Technique.Plain m (map_plain memory n edges (id_of edges n a)) i) r.total_is
       ∙ sym (at_jump Technique.Plain i when_jump when_store otherwise j)
 
+  -- a branch and its target, and any other word
+  pub target_below : is_branch i ≡ true → get_or memory a 0 % 2 ^ 32 < n
+  target_below b = target_low (get_or memory a 0) n b (r.bare.branches a l)
+
   pub branch_put : is_jump i ≡ false → is_branch i ≡ true
-      → encode_of (with_target i (get_or entries (fields_of i).w 0)) ∷ [] ≡ body_plain memory n edges a
+      → (get_or memory a 0 - get_or memory a 0 % 2 ^ 32 + get_or entries (get_or memory a 0 % 2 ^ 32) 0) ∷ [] ≡ body_plain memory n edges a
   branch_put j b =
-      let low = target_low (get_or memory a 0) n b (r.bare.branches a l) in
-      let at = entry (fields_of i).w (omega (arith, low, branch_w (get_or memory a 0) b)) in
-      sym (at_other Technique.Plain i when_jump when_store otherwise j refl ∙ rw (b, at))
+      let f = branch_w (get_or memory a 0) b in
+      let at : get_or entries (get_or memory a 0 % 2 ^ 32) 0 ≡ map_plain memory n edges (fields_of i).w =
+      entry (get_or memory a 0 % 2 ^ 32) (omega (arith, target_below b)) ∙ ap (map_plain memory n edges) (sym f) in
+      ap (λ (x : ℕ). x ∷ [])
+      (ap (λ (x : ℕ). get_or memory a 0 - get_or memory a 0 % 2 ^ 32 + x) at ∙ branch_moved (get_or memory a 0) (map_plain memory n edges (fields_of i).w) b)
+      ∙ sym (at_other Technique.Plain i when_jump when_store otherwise j refl ∙ rw b)
 
   pub other_put : is_jump i ≡ false → is_branch i ≡ false → get_or memory a 0 ∷ [] ≡ body_plain memory n edges a
   other_put j b = sym (at_other Technique.Plain i when_jump when_store otherwise j refl ∙ rw b)
 
   -- there is room
+  pub label_room : get_or entries a 0 + 1 ≤ total
+  label_room = omega (arith, entry a (omega arith), map_lt Technique.Plain memory edges a n l, r.total_is)
+
   pub room : get_or entries a 0 + bit (ltb (get_or own a 0) n) + body_size Technique.Plain i ≤ total - 1
   room =
       omega (
@@ -98,24 +119,23 @@ module _ (memory : List ℕ) (n : ℕ) (edges : List ℕ) (total : ℕ) (entries
         r.total_is,
       )
 
-  pub body_room : {code code₁ : List ℕ} {at behind owner : ℕ} → at ≡ get_or entries a 0 → owner ≡ get_or own a 0
-      → Labelled behind code₁ code at (ltb owner n) (get_or entries owner 0) → total ≤ length code
+  pub body_room : {code code₁ : List ℕ} {behind : ℕ}
+      → Labelled behind code₁ code (get_or entries a 0) (ltb (get_or own a 0) n) (get_or entries (get_or own a 0) 0) → total ≤ length code
       → behind + body_size Technique.Plain i ≤ length code₁
-  body_room {code} {at = at} {owner = owner} e o p h =
-      let same = ap length p.left ∙ length-sets code at (label_of (ltb owner n) (get_or entries owner 0)) in
-      let next = p.behind ∙ ap (λ (x : ℕ). at + bit (ltb x n)) o in
-      omega (arith, same, next, e, room, h)
+  body_room {code} p h =
+      let same = ap length p.left ∙ length-sets code (get_or entries a 0) (label_of (ltb (get_or own a 0) n) (get_or entries (get_or own a 0) 0)) in
+      omega (arith, same, p.behind, room, h)
 
   -- the block, from what the two functions leave
-  pub block_put : {code code₁ code₂ : List ℕ} {at behind owner : ℕ} → at ≡ get_or entries a 0 → owner ≡ get_or own a 0
-      → Labelled behind code₁ code at (ltb owner n) (get_or entries owner 0)
+  pub block_put : {code code₁ code₂ : List ℕ} {behind : ℕ}
+      → Labelled behind code₁ code (get_or entries a 0) (ltb (get_or own a 0) n) (get_or entries (get_or own a 0) 0)
       → code₂ ≡ sets code₁ behind (body_plain memory n edges a)
       → code₂ ≡ sets code (map_plain memory n edges a) (block_plain memory n edges a)
   unfolding block_at
-  block_put {code} e o p q =
+  block_put {code} p q =
       let d = destined edges n own r.owned a l in
       let z = label_length (is_destination edges a) (map_plain memory n edges (set_of edges n a)) in
       q
-      ∙ rw (p.left, p.behind, o, label_put, d, e, entry a (omega arith), ← z)
+      ∙ rw (p.left, p.behind, label_put, d, entry a (omega arith), ← z)
       (sym
       (sets_append (label_at Technique.Plain memory n edges (length memory - n) a) (body_plain memory n edges a) code (map_plain memory n edges a)))

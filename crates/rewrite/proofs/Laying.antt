@@ -1,20 +1,22 @@
 -- Blocks put one after the other into a lent place, over any blocks: code, edges and map are all put so. And the array of entries, one more
 -- at a time.
-use Prim.Native.Nat.{ℕ, suc, ◌+◌, ◌-◌, ◌*◌, ◌<◌, ◌≤◌}
+use Prim.Native.Nat.{ℕ, zero, suc, ◌+◌, ◌-◌, ◌*◌, ◌<◌, ◌≤◌}
 use mathlib.Core.Path.{◌≡◌, refl, sym, ap, subst, ◌∙◌}
 use mathlib.Core.List.{List, [], ◌∷◌, ◌++◌}
 use native.Mathlib.Omega.{arith}
 use native.Mathlib.Numerals.{add-one}
 use native.Mathlib.Decide.{ℕ_discrete}
-use lib.ListN.{length, get_or, set, length-set}
-use lib.Seq.{sets, length-sets, get_or-set_same, get_or-set_other}
+use lib.ListN.{length, get_or, set, take, drop, length-set}
+use lib.Seq.{sets, sets-eq, length-sets, take-suc, get_or-set_same, get_or-set_other}
+use Rattle.std.proofs.Common.{append_assoc}
+use Rattle.std.proofs.lemmas.List.{drop-drop}
 use Rattle.lists.specs.Tables.{Table}
-use Rattle.lists.proofs.Places.{sets_append}
+use Rattle.lists.proofs.Places.{sets_append, over_front}
 use Rattle.isa.specs.declared.Technique.{Technique}
 use Rattle.graph.specs.Claim.{jump_of, target_of}
 use Rattle.guarded.specs.Blocks.{start_of, laid}
 use Rattle.guarded.specs.Rewrite.{block_size, new_edge}
-use Rattle.guarded.proofs.Blocks.{start_next, start_ones, laid_length, sets_laid}
+use Rattle.guarded.proofs.Blocks.{start_next, laid_length, sets_laid, ones_length}
 use Rattle.guarded.proofs.Places.{map_lt}
 use Rattle.guarded.proofs.Claims.{pair, start_pairs}
 use Rattle.rewrite.specs.Inside.{map_plain, Laid}
@@ -49,27 +51,15 @@ module _ (block : ℕ → List ℕ) (size : ℕ → ℕ) (fit : (a : ℕ) → le
       ∙ ap (λ (y : ℕ). set (sets before 0 (laid block m)) y x) q
       ∙ sym (sets_append (laid block m) (x ∷ []) before 0)
 
--- six stores in a row
-pub six_put : (l : List ℕ) (at u v w x y z : ℕ)
-    → set (set (set (set (set (set l at u) (at + 1) v) (at + 2) w) (at + 3) x) (at + 4) y) (at + 5) z
-    ≡ sets l at (u ∷ v ∷ w ∷ x ∷ y ∷ z ∷ [])
-six_put l at u v w x y z =
-    let a : at + 1 ≡ suc at = omega arith in
-    let b : at + 2 ≡ suc (suc at) = omega arith in
-    let c : at + 3 ≡ suc (suc (suc at)) = omega arith in
-    let d : at + 4 ≡ suc (suc (suc (suc at))) = omega arith in
-    let e : at + 5 ≡ suc (suc (suc (suc (suc at)))) = omega arith in
-    rw (a, b, c, d, e) refl
+-- a part written over
+pub part_put : (xs l : List ℕ) (at : ℕ) → at + length xs ≤ length l → take at l ++ (xs ++ drop (length xs) (drop at l)) ≡ sets l at xs
+part_put xs l at h =
+    rw (drop-drop (length xs) at l, sets-eq xs l at h, append_assoc (take at l) xs (drop (at + length xs) l)) refl
 
--- one entry of the map more, and one edge
+-- one edge more
 module _ (memory : List ℕ) (n : ℕ) (edges entries : List ℕ) (t : Table entries (n + 1) (map_plain memory n edges)) where
   pub entry_above : (j : ℕ) → j < n → 1 ≤ get_or entries (j + 1) 0
   entry_above j l = omega (arith, t.each (j + 1) (omega arith), map_lt Technique.Plain memory edges 0 (j + 1) (omega arith))
-
-  pub map_more : {before out : List ℕ} {a : ℕ} → Putting (λ x. map_plain memory n edges x ∷ []) before out a → a < n
-      → Putting (λ x. map_plain memory n edges x ∷ []) before (set out a (get_or entries a 0)) (a + 1)
-  map_more {before} {out} {a} p l =
-      put_more (λ x. map_plain memory n edges x ∷ []) (λ _. 1) (λ _. refl) p (rw (start_ones a, t.each a (omega arith)) refl)
 
   pub edge_more : {before out : List ℕ} {k j x : ℕ} → Putting (new_edge Technique.Plain memory edges) before out k → j ≡ jump_of edges k → j < n
       → x ≡ target_of edges k → x < n
@@ -117,3 +107,18 @@ module _ (memory : List ℕ) (n : ℕ) (edges : List ℕ) where
         total_is = ap (λ (x : ℕ). x + 1) (m.next ∙ ap (map_plain memory n edges) e);
         entries_are = subst (λ (x : ℕ). Table entries x (map_plain memory n edges)) e m.filled;
       }
+
+-- the entries of the map are the front of the array
+entries_front : (F : ℕ → ℕ) (xs : List ℕ) (n : ℕ) → n ≤ length xs → ((j : ℕ) → j < n → get_or xs j 0 ≡ F j) → take n xs ≡ laid (λ a. F a ∷ []) n
+unfolding laid
+entries_front F xs zero l h = refl
+entries_front F xs (suc n) l h =
+    take-suc xs n 0 (omega arith)
+    ∙ (rw (entries_front F xs n (omega arith) (λ j q. h j (omega arith)), h n (omega arith)) refl)
+
+pub entries_put : (F : ℕ → ℕ) (xs l : List ℕ) (n : ℕ) → Table xs (n + 1) F → n < 2048 → n ≤ length l
+    → take n xs ++ drop n l ≡ sets l 0 (laid (λ a. F a ∷ []) n)
+entries_put F xs l n t s h =
+    let e = entries_front F xs n (let z = t.size in omega arith) (λ j q. t.each j (omega arith)) in
+    let z = ones_length F n in
+    rw e (sym (over_front (laid (λ a. F a ∷ []) n) l (omega arith) ∙ ap (λ (k : ℕ). laid (λ a. F a ∷ []) n ++ drop k l) z))

@@ -72,10 +72,11 @@ module _ (edges : List ℕ) (n : ℕ) where
       (λ t l. sym (edge_more edges k (jump_of edges k) t ∙ rw (eq-eqb (jump_of edges k) (jump_of edges k) refl)))
 
   pub id_step : (ids : List ℕ) (k j t v : ℕ) → n ≤ 2048 → Table ids n (id_in edges n k) → j ≡ jump_of edges k → j < n → t ≡ target_of edges k
-      → t < n → v ≡ min t (get_or ids j 0) → Table (set ids j v) n (id_in edges n (k + 1))
+      → t < n → v ≡ min (get_or ids j 0) t → Table (set ids j v) n (id_in edges n (k + 1))
   id_step ids k j t v s h ej l et b ev =
+      let turned : v ≡ min t (get_or ids j 0) = omega (arith, ev) in
       table_set (id_in edges n (k + 1)) j v h (omega arith)
-      (ev ∙ rw (h.each j l, et, ej) (id_same k (omega arith)))
+      (turned ∙ rw (h.each j l, et, ej) (id_same k (omega arith)))
       (λ x q ne. id_other k x (λ e. ne (e ∙ sym ej)))
 
   pub id_all : (m j : ℕ) → m ≡ edge_count edges → id_in edges n m j ≡ id_of edges n j

@@ -7,13 +7,15 @@ use native.Mathlib.Omega.{arith}
 use lib.Dec.{ltb, leb, eqb}
 use lib.ListN.{length}
 use lib.Seq.{sets}
-use borrow.Author.Tests.{eqb-true, ltb-false, ne_eqb}
+use borrow.Author.Tests.{eqb-true, ltb-false}
 use Rattle.lists.proofs.Bools.{and_left, and_right, or_left, or_right}
 use Rattle.lists.proofs.Search.{lowest_ext}
 use Rattle.lists.proofs.Places.{over_front}
 use Rattle.answers.specs.declared.Refusal.{Refusal}
 use Rattle.answers.specs.declared.Place.{Place}
-use Rattle.answers.specs.declared.Verdict.{Verdict}
+use Rattle.std.specs.Prelude.{Ok, Err}
+use Rattle.answers.specs.declared.Fault.{Fault}
+use Rattle.answers.specs.Faults.{fault, Verdict}
 use Rattle.answers.specs.Shape.{memory_shaped, edges_shaped}
 use Rattle.isa.specs.declared.Technique.{Technique}
 use Rattle.graph.specs.Claim.{is_edge, id_of}
@@ -29,9 +31,8 @@ use Rattle.guarded.proofs.Blocks.{ones_length}
 use Rattle.guarded.proofs.Places.{code_length}
 use Rattle.guarded.proofs.Claims.{edges_length}
 use Rattle.guarded.proofs.Theorems.{guards_put_in}
-use Rattle.rewrite.specs.declared.Rewritten.{Rewritten}
-use Rattle.rewrite.specs.Answers.{places_short, Put, plain_of}
-use Rattle.rewrite.specs.Inside.{OneId, Claim, length_plain, code_plain, edges_plain, entries_plain, map_plain, from_length, outcome_of, Bare, Laid, Ready}
+use Rattle.rewrite.specs.Answers.{Answer, places_short, Put, plain_of}
+use Rattle.rewrite.specs.Inside.{OneId, Claim, length_plain, code_plain, edges_plain, entries_plain, map_plain, from_length, Bare, Laid, Ready}
 
 module _ (memory : List ℕ) (n : ℕ) (edges : List ℕ) where
   one_id : ClaimFaultless memory n edges → Within edges n → OneId edges n
@@ -42,7 +43,7 @@ module _ (memory : List ℕ) (n : ℕ) (edges : List ℕ) where
       lowest_ext (is_edge edges i) (is_edge edges j) n (apart_one edges n i j q.0 (f.sets_apart i p.0) a p.1 ia ja)
 
   -- what the words' verdict leaves
-  pub bare_of : words_verdict_of memory n edges ≡ Verdict.Accepted → Bare memory n edges
+  pub bare_of : words_verdict_of memory n edges ≡ Ok tt → Bare memory n edges
   unfolding words_verdict_of
   bare_of e =
       let p = claim_passed memory n edges (word_rules memory n []) e in
@@ -62,20 +63,19 @@ module _ (memory : List ℕ) (n : ℕ) (edges : List ℕ) where
   unfolding bare_verdict_of words_verdict_of
   after_words = broken_append (claim_rules memory n edges (word_rules memory n [])) (from_length memory n edges)
 
-  pub words_kept : words_verdict_of memory n edges ≡ Verdict.Accepted
+  pub words_kept : words_verdict_of memory n edges ≡ Ok tt
       → bare_verdict_of Technique.Plain memory n edges ≡ first_broken (from_length memory n edges)
   words_kept e = after_words ∙ ap (λ (v : Verdict). or_else v (first_broken (from_length memory n edges))) e
 
-  pub words_broken : {why : Refusal} {place : Place} → words_verdict_of memory n edges ≡ Verdict.Refused why place
-      → bare_verdict_of Technique.Plain memory n edges ≡ Verdict.Refused why place
+  pub words_broken : {f : Fault} → words_verdict_of memory n edges ≡ Err f → bare_verdict_of Technique.Plain memory n edges ≡ Err f
   words_broken e = after_words ∙ ap (λ (v : Verdict). or_else v (first_broken (from_length memory n edges))) e
 
 -- a refusal leaves everything as it was
-pub refused_put : {verdict : Verdict} {why : Refusal} {place : Place} (new : Guarded) (code edges entries : List ℕ) → verdict ≡ Verdict.Refused why place
-    → Put verdict new code edges entries (Rewritten.Refused why place) code edges entries
+pub refused_put : {verdict : Verdict} {f : Fault} (new : Guarded) (code edges entries : List ℕ) → verdict ≡ Err f
+    → Put verdict new code edges entries (Err f) code edges entries
 refused_put new code edges entries e = record { answers = rw e; code_after = refl; edges_after = refl; entries_after = refl }
 
-pub put_as : {verdict later : Verdict} {new : Guarded} {code edges entries : List ℕ} {answer : Rewritten} {code' edges' entries' : List ℕ} → verdict ≡ later
+pub put_as : {verdict later : Verdict} {new : Guarded} {code edges entries : List ℕ} {answer : Answer} {code' edges' entries' : List ℕ} → verdict ≡ later
     → Put later new code edges entries answer code' edges' entries' → Put verdict new code edges entries answer code' edges' entries'
 put_as e p = rw e p
 
@@ -101,36 +101,33 @@ module _ (memory : List ℕ) (n : ℕ) (edges : List ℕ) (c : Claim memory n ed
         ← c.even,
       )
 
-  pub short_put : (b : Bool) → b ≡ (ltb (length code) total || (ltb (length new_edges) (length edges) || ltb (length entries) n)) → b ≡ true
-      → Put Verdict.Accepted (plain_of memory n edges) code new_edges entries (Rewritten.Refused Refusal.PlaceTooShort Place.Nowhere) code new_edges entries
-  short_put b e h = record { answers = rw (short_is ∙ sym e ∙ h); code_after = refl; edges_after = refl; entries_after = refl }
+  abbrev short : Bool
+  short = ltb (length code) total || (ltb (length new_edges) (length edges) || ltb (length entries) n)
 
-  pub places_long : (b : Bool) → b ≡ (ltb (length code) total || (ltb (length new_edges) (length edges) || ltb (length entries) n)) → b ≡ false
-      → (total ≤ length code) × (length edges ≤ length new_edges) × (n ≤ length entries)
-  places_long b e h =
-      let none = sym e ∙ h in
+  pub short_put : short ≡ true
+      → Put (Ok tt) (plain_of memory n edges) code new_edges entries (Err (fault Refusal.PlaceTooShort Place.Nowhere)) code new_edges entries
+  short_put h = record { answers = rw (short_is ∙ h); code_after = refl; edges_after = refl; entries_after = refl }
+
+  pub places_long : short ≡ false → (total ≤ length code) × (length edges ≤ length new_edges) × (n ≤ length entries)
+  places_long none =
       let rest = or_right (ltb (length code) total) _ none in (
         ltb-false (length code) total (or_left _ _ none),
         ltb-false (length new_edges) (length edges) (or_left _ _ rest),
         ltb-false (length entries) n (or_right (ltb (length new_edges) (length edges)) _ rest),
       )
 
-  pub all_put : (b : Bool) → b ≡ (ltb (length code) total || (ltb (length new_edges) (length edges) || ltb (length entries) n)) → b ≡ false
-      → {code' new_edges' entries' : List ℕ} → code' ≡ sets code 0 (code_plain memory n edges) → new_edges' ≡ sets new_edges 0 (edges_plain memory n edges)
-      → entries' ≡ sets entries 0 (entries_plain memory n edges)
-      → Put Verdict.Accepted (plain_of memory n edges) code new_edges entries (outcome_of total (length edges)) code' new_edges' entries'
-  all_put b e h ec ee em =
-      let long = places_long b e h in
+  pub all_put : short ≡ false → {code' new_edges' entries' : List ℕ} → code' ≡ sets code 0 (code_plain memory n edges)
+      → new_edges' ≡ sets new_edges 0 (edges_plain memory n edges) → entries' ≡ sets entries 0 (entries_plain memory n edges)
+      → Put (Ok tt) (plain_of memory n edges) code new_edges entries (Ok (record { code = total; edges = length edges })) code' new_edges' entries'
+  all_put h ec ee em =
+      let long = places_long h in
       let cl = code_length Technique.Plain memory n edges (length memory - n) in
       let el = edges_length Technique.Plain memory edges in
       let ml = ones_length (map_plain memory n edges) n in
       let ev = c.even in
-      let some = c.sized.some_code in
-      let more = guards_put_in.plain_length memory n edges in
-      rw (ne_eqb total 0 (omega arith), ne_eqb total 1 (omega arith))
-      (record {
-        answers = rw (short_is ∙ sym e ∙ h) (rw (cl, el, ← t, ← ev));
+      record {
+        answers = rw (short_is ∙ h) (rw (cl, el, ← t, ← ev));
         code_after = ec ∙ over_front (code_plain memory n edges) code (omega arith);
         edges_after = ee ∙ over_front (edges_plain memory n edges) new_edges (omega arith);
         entries_after = em ∙ over_front (entries_plain memory n edges) entries (omega arith);
-      })
+      }

@@ -1,10 +1,8 @@
 -- What only the private functions of this crate promise each other: what the tests before them leave, and what stands in the arrays.
-use Rattle.std.specs.Prelude.{ℕ, ◌+◌, ◌-◌, ◌*◌, ◌/◌, ◌<◌, ◌≤◌, ◌≡◌, Bool, true, false, cond, List, length, eqb}
+use Rattle.std.specs.Prelude.{ℕ, ◌+◌, ◌-◌, ◌*◌, ◌/◌, ◌<◌, ◌≤◌, ◌≡◌, Bool, true, false, List, length}
 use Rattle.std.proofs.lemmas.List.Edits.{sets}
 use Rattle.lists.specs.Search.{lowest, bit}
 use Rattle.lists.specs.Tables.{Table}
-use Rattle.answers.specs.declared.Refusal.{Refusal}
-use Rattle.answers.specs.declared.Place.{Place}
 use Rattle.isa.specs.declared.Technique.{Technique}
 use Rattle.graph.specs.Claim.{is_edge, id_of}
 use Rattle.graph.specs.Rules.{lacks_edge}
@@ -12,7 +10,6 @@ use Rattle.graph.specs.Passes.{Sized, Within, Owned, edge_in}
 use Rattle.checker.specs.Verdicts.{Rule}
 use Rattle.guarded.specs.Rewrite.{map_of, new_length, label_of, body_at, block_at, new_code, new_edges, new_map}
 use Rattle.guarded.specs.Rules.{branches_out, length_rule}
-use Rattle.rewrite.specs.declared.Rewritten.{Rewritten}
 
 -- the lowest target of jump j among the first m edges, or n
 unfoldable pub id_in : List ℕ → ℕ → ℕ → ℕ → ℕ
@@ -60,12 +57,6 @@ module _ (memory : List ℕ) (n : ℕ) (edges : List ℕ) where
   -- 22 alone
   abbrev pub from_length : List Rule
   from_length = length_rule Technique.Plain memory n edges
-
--- what `rewrite_bare` tells by a number: 22, 5, or the length of the new code, which is 2 or more
-abbrev pub outcome_of : ℕ → ℕ → Rewritten
-outcome_of total edges =
-    cond (eqb total 0) (Rewritten.Refused Refusal.ResultTooLong Place.Nowhere)
-    (cond (eqb total 1) (Rewritten.Refused Refusal.PlaceTooShort Place.Nowhere) (Rewritten.Guarded total edges))
 
 -- how long the new code is, and an array with where each block begins
 pub record Laid (total : ℕ) (entries : List ℕ) (memory : List ℕ) (n : ℕ) (edges : List ℕ) : Type 0 where

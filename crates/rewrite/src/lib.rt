@@ -4,28 +4,29 @@
 
 mod blocks;
 mod entries;
+mod given;
 mod sets;
 
-ghost use Rattle.std.specs.Prelude.{◌≡◌, ◌||◌, ltb, length};
-ghost use Rattle.answers.specs.declared.Verdict.{Verdict};
+ghost use Rattle.std.specs.Prelude.{◌≡◌, ◌≤◌, length, Ok};
+ghost use Rattle.isa.specs.declared.Technique.{Technique};
+ghost use Rattle.guards.specs.Patterns.{jump_words};
 ghost use Rattle.checker.specs.Verdicts.{first_broken};
 ghost use Rattle.rewrite.specs.Answers.{Put, plain_of, RewrittenSo};
-ghost use Rattle.rewrite.specs.Inside.{Bare, Ready, from_length, outcome_of};
+ghost use Rattle.rewrite.specs.Inside.{Ready, from_length};
 
-use answers::{Place, Refusal, Verdict};
-use blocks::put_code;
-use entries::{fill_entries, put_edges, put_entries};
-use sets::{lowest_targets, put_owners};
+use answers::{Fault, Refusal};
+use given::BareCode;
+use isa::Technique;
 
-// What comes of bare code: so many words of guarded code and so many edge numbers, or the number and the place of the first fault.
-#[derive(Clone, Copy)]
-pub enum Rewritten {
-    Guarded { code: usize, edges: usize },
-    Refused(Refusal, Place),
+// What comes of bare code: so many words of guarded code and so many edge numbers.
+#[derive(Clone, Copy, Debug, PartialEq, Eq)]
+pub struct Rewritten {
+    pub code: usize,
+    pub edges: usize,
 }
 
 // Puts the guarded code of the n words at the front of memory into `code`, its edges into `new_edges`, and for each of the n addresses
-// where its block begins into `map`.
+// where its block begins into `map`; or gives the number and the place of the first fault.
 #[tactic(auto, using(crate::proofs::Verdicts::bare_of, crate::proofs::Verdicts::words_kept, crate::proofs::Verdicts::words_broken, crate::proofs::Verdicts::refused_put, crate::proofs::Verdicts::put_as))]
 pub fn rewrite(
     memory: &[u64],
@@ -34,104 +35,84 @@ pub fn rewrite(
     code: &mut [u64],
     new_edges: &mut [u16],
     map: &mut [u16],
-) -> Rewritten
+) -> Result<Rewritten, Fault>
     ensures { RewrittenSo memory.now n edges.now code.old new_edges.old map.old result code.new new_edges.new map.new }
 {
-    let verdict = bare::check_bare(memory, n, edges);
-    match verdict {
-        Verdict::Accepted => {
-            let total = rewrite_bare(memory, n, edges, code, new_edges, map);
-            outcome(total, edges.len())
-        }
-        Verdict::Refused(why, place) => Rewritten::Refused(why, place),
-    }
-}
-
-// What the length of the new code tells: 0, that it is above 2,048 words; 1, that a place is too short for it, for the edges or for the map.
-fn outcome(total: usize, edges: usize) -> Rewritten
-    ensures { result ≡ outcome_of total edges }
-{
-    match total {
-        0 => Rewritten::Refused(Refusal::ResultTooLong, Place::Nowhere),
-        1 => Rewritten::Refused(Refusal::PlaceTooShort, Place::Nowhere),
-        _ => Rewritten::Guarded {
-            code: total,
-            edges: edges,
-        },
-    }
+    bare::check_bare(memory, n, edges)?;
+    rewrite_bare(&BareCode { memory, n, edges }, code, new_edges, map)
 }
 
 // Number 22, and 5 after it.
 #[tactic(auto, using(lists::proofs::Tables::table_new, checker::proofs::Rules::no_rule, checker::proofs::Rules::broken_once, checker::proofs::Rules::kept_once, crate::proofs::Laying::table_grow, crate::proofs::Verdicts::laid_below, crate::proofs::Verdicts::refused_put, crate::proofs::Verdicts::put_as))]
 #[inline(never)]
 fn rewrite_bare(
-    memory: &[u64],
-    n: usize,
-    edges: &[u16],
+    bare: &BareCode,
     code: &mut [u64],
     new_edges: &mut [u16],
     map: &mut [u16],
-) -> usize
-    requires { Bare memory.now n edges.now }
-    ensures { Put (first_broken (from_length memory.now n edges.now)) (plain_of memory.now n edges.now) code.old new_edges.old map.old (outcome_of result (length edges.now)) code.new new_edges.new map.new }
+) -> Result<Rewritten, Fault>
+    ensures { Put (first_broken (from_length bare.now.memory.now bare.now.n bare.now.edges.now)) (plain_of bare.now.memory.now bare.now.n bare.now.edges.now) code.old new_edges.old map.old result code.new new_edges.new map.new }
 {
-    let nobody = n as u16;
+    let nobody = bare.n as u16;
     let mut ids = [nobody; 2048];
-    lowest_targets(edges, n, &mut ids);
+    bare.lowest_targets(&mut ids);
     let mut own = [nobody; 2048];
-    put_owners(edges, n, &ids, &mut own);
+    bare.put_owners(&ids, &mut own);
     let mut entries = [0u16; 2048];
-    let total = fill_entries(memory, n, edges, &own, &mut entries);
+    let total = bare.fill_entries(&own, &mut entries);
     if 2048 < total {
-        return 0;
+        return Err(Fault::nowhere(Refusal::ResultTooLong));
     }
-    entries[n] = (total - 1) as u16;
-    put_guarded(
-        memory, n, edges, total, &entries, &ids, &own, code, new_edges, map,
-    )
-}
-
-#[tactic(auto, using(crate::proofs::Verdicts::ready_below, crate::proofs::Verdicts::short_put, crate::proofs::Verdicts::places_long, crate::proofs::Verdicts::all_put))]
-fn put_guarded(
-    memory: &[u64],
-    n: usize,
-    edges: &[u16],
-    total: usize,
-    entries: &[u16; 2048],
-    ids: &[u16; 2048],
-    own: &[u16; 2048],
-    code: &mut [u64],
-    new_edges: &mut [u16],
-    map: &mut [u16],
-) -> usize
-    requires { Ready memory.now n edges.now total entries.now ids.now own.now }
-    ensures { Put Verdict.Accepted (plain_of memory.now n edges.now) code.old new_edges.old map.old (outcome_of result (length edges.now)) code.new new_edges.new map.new }
-{
-    if any_short(
-        code.len(),
+    entries[bare.n] = (total - 1) as u16;
+    let words = guards::jump_words(Technique::Plain, (total - 1) as u32);
+    let layout = Layout {
+        bare: *bare,
         total,
-        new_edges.len(),
-        edges.len(),
-        map.len(),
-        n,
-    ) {
-        return 1;
-    }
-    put_code(memory, n, edges, total, entries, ids, own, code);
-    put_edges(memory, n, edges, entries, new_edges);
-    put_entries(memory, n, edges, entries, map);
-    total
+        entries: &entries,
+        ids: &ids,
+        own: &own,
+        words: &words,
+    };
+    layout.put(code, new_edges, map)
 }
 
-// Whether one of three places is shorter than what is to be put there.
-fn any_short(a: usize, x: usize, b: usize, y: usize, c: usize, z: usize) -> bool
-    ensures { result ≡ (ltb a x || (ltb b y || ltb c z)) }
-{
-    if a < x {
-        return true;
+// What is to be written of bare code: the length of the new code, where each block begins, the ID of each jump's set and of the set that
+// each destination is in, and the words of a jmp's guard.
+#[derive(Clone, Copy)]
+struct Layout<'a> {
+    bare: BareCode<'a>,
+    total: usize,
+    entries: &'a [u16; 2048],
+    ids: &'a [u16; 2048],
+    own: &'a [u16; 2048],
+    words: &'a [u64; 10],
+    ghost ready: { Ready bare.memory.now bare.n bare.edges.now total entries.now ids.now own.now },
+    ghost guard: { words.now ≡ jump_words Technique.Plain total },
+}
+
+impl Layout<'_> {
+    // The code, the edges and the map, where each has its place.
+    #[tactic(auto, using(crate::proofs::Verdicts::ready_below, crate::proofs::Verdicts::short_put, crate::proofs::Verdicts::places_long, crate::proofs::Verdicts::all_put))]
+    fn put(
+        &self,
+        code: &mut [u64],
+        new_edges: &mut [u16],
+        map: &mut [u16],
+    ) -> Result<Rewritten, Fault>
+        ensures { Put (Ok tt) (plain_of self.now.bare.memory.now self.now.bare.n self.now.bare.edges.now) code.old new_edges.old map.old result code.new new_edges.new map.new }
+    {
+        let edges = self.bare.edges.len();
+        let short = (code.len() < self.total)
+            | ((new_edges.len() < edges) | (map.len() < self.bare.n));
+        if short {
+            return Err(Fault::nowhere(Refusal::PlaceTooShort));
+        }
+        self.put_code(code);
+        self.put_edges(new_edges);
+        self.put_entries(map);
+        Ok(Rewritten {
+            code: self.total,
+            edges,
+        })
     }
-    if b < y {
-        return true;
-    }
-    c < z
 }

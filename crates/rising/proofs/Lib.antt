@@ -1,3 +1,4 @@
+pub mod Numbers
 pub mod Rising
 pub mod Same
 pub mod Sizes

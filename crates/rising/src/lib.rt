@@ -2,102 +2,147 @@
 // numbers of 16 bits and, in the second parcel edition (K6), of 32.
 #![tactic(auto)]
 
-ghost use Rattle.std.specs.Prelude.{◌≡◌, ◌<◌, ◌^◌};
-ghost use Rattle.lists.specs.Search.{any};
+ghost use Rattle.std.specs.Prelude.{◌≡◌, ◌+◌, ◌*◌, ◌<◌, ◌^◌, ℕ, List, map, ltb, refl};
+ghost use Rattle.std.proofs.Common.{sym};
+ghost use Rattle.std.proofs.lemmas.List.{map-id};
+ghost use Rattle.lists.specs.Search.{any, first};
 ghost use Rattle.graph.specs.Claim.{edge_count};
-ghost use Rattle.rising.specs.Rising.{not_rising, first_not_rising};
+ghost use Rattle.rising.specs.Rising.{not_rising};
 ghost use Rattle.rising.specs.Inside.{IsRank};
 
-// Number 18: the first edge that is not above the one before it, or how many edges there are.
-#[tactic(auto, using(lists::proofs::Search::lowest_none, lists::proofs::Search::any_none))]
-pub fn first_not_rising(edges: &[u16]) -> usize
-    ensures { result ≡ first_not_rising edges.now }
+// An unsigned number, and in clauses what it and a list of such numbers stand for.
+pub trait Number: Copy {
+    ghost number: { Self → ℕ };
+
+    ghost numbers: { List Self → List ℕ };
+
+    ghost each: { (xs : List Self) → numbers xs ≡ map number xs };
+}
+
+impl Number for u16 {
+    ghost number = { λ x. x };
+
+    ghost numbers = { λ xs. xs };
+
+    ghost each = { λ xs. sym (map-id xs) };
+}
+
+impl Number for u32 {
+    ghost number = { λ x. x };
+
+    ghost numbers = { λ xs. xs };
+
+    ghost each = { λ xs. sym (map-id xs) };
+}
+
+impl Number for u64 {
+    ghost number = { λ x. x };
+
+    ghost numbers = { λ xs. xs };
+
+    ghost each = { λ xs. sym (map-id xs) };
+}
+
+// An edge number: the jump's address and the target are one number, which is higher for a higher jump, and of one jump for a higher target.
+pub trait EdgeNumber: Number {
+    type Rank: Copy;
+
+    ghost base: { ℕ };
+
+    ghost value: { Self.Rank → ℕ };
+
+    fn rank(jump: Self, target: Self) -> Self::Rank
+        ensures is { value result ≡ Self.number jump * base + Self.number target }
+        ensures narrow { Self.number target < base };
+
+    fn rises(before: Self::Rank, here: Self::Rank) -> bool
+        ensures { result ≡ ltb (value before) (value here) };
+}
+
+impl EdgeNumber for u16 {
+    type Rank = u32;
+
+    ghost base = { 2 ^ 16 };
+
+    ghost value = { λ x. x };
+
+    fn rank(jump: u16, target: u16) -> u32 {
+        jump as u32 * 65536 + target as u32
+    }
+
+    fn rises(before: u32, here: u32) -> bool {
+        before < here
+    }
+}
+
+impl EdgeNumber for u32 {
+    type Rank = u64;
+
+    ghost base = { 2 ^ 32 };
+
+    ghost value = { λ x. x };
+
+    fn rank(jump: u32, target: u32) -> u64 {
+        jump as u64 * 0x1_0000_0000 + target as u64
+    }
+
+    fn rises(before: u64, here: u64) -> bool {
+        before < here
+    }
+}
+
+// Number 18: the first edge that is not above the one before it.
+pub fn first_not_rising<E: EdgeNumber>(edges: &[E]) -> Option<usize>
+    ensures { result ≡ first (not_rising (E.numbers edges.now)) (edge_count (E.numbers edges.now)) }
 {
     if some_not_rising(edges) {
         return find_not_rising(edges);
     }
-    edges.len() / 2
-}
-
-// The same of edge numbers of 32 bits.
-#[tactic(auto, using(lists::proofs::Search::lowest_none, lists::proofs::Search::clean_none, crate::proofs::Rising::passed_one, crate::proofs::Rising::passed_all, crate::proofs::Rising::passed_falls, crate::proofs::Rising::passed_more))]
-pub fn first_not_rising_wide(edges: &[u32]) -> usize
-    ensures { result ≡ first_not_rising edges.now }
-{
-    let m = edges.len() / 2;
-    if m == 0 {
-        return 0;
-    }
-    let mut before = rank_wide(edges, 0);
-    let mut k = 1;
-    while k < m {
-        let next = rank_wide(edges, k);
-        if next <= before {
-            return k;
-        }
-        before = next;
-        k += 1;
-    }
-    k
+    None
 }
 
 // Whether there is one. No edge ends the loop before the last, so that the compiler can take several edges at a time.
-#[tactic(auto, using(lists::proofs::Search::any_clean, lists::proofs::Search::clean_none, lists::proofs::Search::clean_more, crate::proofs::Rising::rank_falls), unfolding(lists::specs::Search::any))]
-fn some_not_rising(edges: &[u16]) -> bool
-    ensures { result ≡ any (not_rising edges.now) (edge_count edges.now) }
+#[tactic(auto, using(crate::proofs::Numbers::numbers_length), unfolding(lists::specs::Search::any))]
+fn some_not_rising<E: EdgeNumber>(edges: &[E]) -> bool
+    ensures { result ≡ any (not_rising (E.numbers edges.now)) (edge_count (E.numbers edges.now)) }
 {
     let m = edges.len() / 2;
     if m == 0 {
         return false;
     }
     let mut found = false;
-    let mut before = rank(edges, 0);
-    let mut k = 1;
-    while k < m {
-        let here = rank(edges, k);
-        found = (here <= before) | found;
+    let mut before = rank_at(edges, 0);
+    for k in 1..m {
+        let here = rank_at(edges, k);
+        found = !E::rises(before, here) | found;
         before = here;
-        k += 1;
     }
     found
 }
 
-#[tactic(auto, using(lists::proofs::Search::lowest_none, lists::proofs::Search::clean_none, crate::proofs::Rising::passed_one, crate::proofs::Rising::passed_all, crate::proofs::Rising::passed_falls, crate::proofs::Rising::passed_more))]
-fn find_not_rising(edges: &[u16]) -> usize
-    ensures { result ≡ first_not_rising edges.now }
+#[tactic(auto, using(crate::proofs::Rising::passed_one, crate::proofs::Numbers::numbers_length))]
+fn find_not_rising<E: EdgeNumber>(edges: &[E]) -> Option<usize>
+    ensures { result ≡ first (not_rising (E.numbers edges.now)) (edge_count (E.numbers edges.now)) }
 {
     let m = edges.len() / 2;
     if m == 0 {
-        return 0;
+        return None;
     }
-    let mut before = rank(edges, 0);
-    let mut k = 1;
-    while k < m {
-        let here = rank(edges, k);
-        if here <= before {
-            return k;
+    let mut before = rank_at(edges, 0);
+    for k in 1..m {
+        let here = rank_at(edges, k);
+        if !E::rises(before, here) {
+            return Some(k);
         }
         before = here;
-        k += 1;
     }
-    k
+    None
 }
 
-// The jump's address and the target as one number, which is higher for a higher jump, and of one jump for a higher target.
-fn rank(edges: &[u16], k: usize) -> u32
-    requires { k < edge_count edges.now }
-    ensures { IsRank (2 ^ 16) result edges.now k }
+// The rank of an edge.
+fn rank_at<E: EdgeNumber>(edges: &[E], k: usize) -> E::Rank
+    requires { k < edge_count (E.numbers edges.now) }
+    ensures { IsRank E.base (E.value result) (E.numbers edges.now) k }
 {
-    let jump = edges[2 * k];
-    let target = edges[2 * k + 1];
-    jump as u32 * 65536 + target as u32
-}
-
-fn rank_wide(edges: &[u32], k: usize) -> u64
-    requires { k < edge_count edges.now }
-    ensures { IsRank (2 ^ 32) result edges.now k }
-{
-    let jump = edges[2 * k];
-    let target = edges[2 * k + 1];
-    jump as u64 * 0x1_0000_0000 + target as u64
+    E::rank(edges[2 * k], edges[2 * k + 1])
 }

@@ -1,7 +1,6 @@
 -- Beside the table: a store and a load whose sum passes two to the 64 (document 02, K5), in the program of
 -- `examples/store-past-top.txt`.
-use Rattle.std.specs.Prelude.{ℕ, ◌+◌, ◌-◌, ◌^◌, ◌≡◌, List, [], ◌∷◌, ◌++◌, map, length, set}
-use Rattle.answers.specs.declared.Verdict.{Verdict}
+use Rattle.std.specs.Prelude.{ℕ, ◌+◌, ◌-◌, ◌^◌, ◌≡◌, List, [], ◌∷◌, ◌++◌, map, length, set, Ok}
 use Rattle.isa.specs.declared.Instr.{Instr}
 use Rattle.isa.specs.declared.Technique.{Technique}
 use Rattle.isa.specs.Words.{encode_of}
@@ -49,8 +48,8 @@ pub record PastTopShown : Type 0 where
   pub comes_round : sum_of near_top 8 ≡ 4
   pub exact : address_of near_top 8 ≡ 2 ^ 64 + 4
   -- the store is accepted plain, the load by both techniques
-  pub store_accepted : verdict_of Technique.Plain (storing ++ data_words) 4 [] ≡ Verdict.Accepted
-  pub load_accepted : verdict_of Technique.Plain (loading ++ data_words) 4 [] ≡ Verdict.Accepted
-  pub load_accepted_guarded : verdict_of Technique.MemoryGuards (loading ++ data_words) 4 [] ≡ Verdict.Accepted
+  pub store_accepted : verdict_of Technique.Plain (storing ++ data_words) 4 [] ≡ Ok tt
+  pub load_accepted : verdict_of Technique.Plain (loading ++ data_words) 4 [] ≡ Ok tt
+  pub load_accepted_guarded : verdict_of Technique.MemoryGuards (loading ++ data_words) 4 [] ≡ Ok tt
   -- the runs, for every choice of the 32 registers
   pub runs : (regs : List ℕ) → length regs ≡ 32 → PastTopRuns regs

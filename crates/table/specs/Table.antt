@@ -1,8 +1,8 @@
 -- The starred rows of document 01, "The post program and its table", in its order and in its numbers. ROWS.md maps each row to
 -- its fields.
-use Rattle.std.specs.Prelude.{ℕ, ◌+◌, ◌≡◌, List, [], ◌∷◌, ◌++◌, length, set}
+use Rattle.std.specs.Prelude.{ℕ, ◌+◌, ◌≡◌, List, [], ◌∷◌, ◌++◌, length, set, Ok, Err}
 use Rattle.answers.specs.declared.Place.{Place}
-use Rattle.answers.specs.declared.Verdict.{Verdict}
+use Rattle.answers.specs.Faults.{Verdict}
 use Rattle.answers.specs.Numbers.{refusal_number}
 use Rattle.isa.specs.declared.Instr.{Instr}
 use Rattle.isa.specs.declared.Technique.{Technique}
@@ -24,11 +24,14 @@ pub data Paper : Type 0 where
   address : ℕ → ℕ → Paper
   refused : ℕ → Paper
 
+abbrev pub refused_at : ℕ → Place → Paper
+refused_at number (Place.Edge k) = edge number k
+refused_at number (Place.Address a) = address number a
+refused_at number Place.Nowhere = refused number
+
 abbrev pub paper : Verdict → Paper
-paper Verdict.Accepted = accepted
-paper (Verdict.Refused why (Place.Edge k)) = edge (refusal_number why) k
-paper (Verdict.Refused why (Place.Address a)) = address (refusal_number why) a
-paper (Verdict.Refused why Place.Nowhere) = refused (refusal_number why)
+paper (Ok _) = accepted
+paper (Err f) = refused_at (refusal_number f.refusal) f.place
 
 -- the verdict on code without data
 abbrev pub verdict : Technique → List ℕ → List ℕ → Paper

@@ -1,6 +1,6 @@
--- Laws of products: fractions compared by cross products, and what fits into 64 bits.
-use Prim.Native.Nat.{ℕ, ◌*◌, ◌^◌, ◌≤◌, ◌<◌}
-use native.Mathlib.Nat.{mul_right_comm, mul-le-mul, mul-le-mul_right, mul-lt-mul_of_pos_right, lt_of_mul-lt-mul_right}
+-- A law of products: fractions compared by cross products.
+use Prim.Native.Nat.{ℕ, ◌*◌, ◌≤◌, ◌<◌}
+use native.Mathlib.Nat.{mul_right_comm, mul-le-mul_right, mul-lt-mul_of_pos_right, lt_of_mul-lt-mul_right}
 use native.Mathlib.Omega.{arith}
 
 -- e of p is at most a of b, which is less than c of d: both sides times b
@@ -9,7 +9,3 @@ still_less e p a b c d some low high =
     let l : e * b * d ≤ a * p * d = mul-le-mul_right d low in
     let h : a * d * p < c * b * p = mul-lt-mul_of_pos_right high some in
     lt_of_mul-lt-mul_right b (omega (arith, mul_right_comm e d b, mul_right_comm a p d, mul_right_comm c p b))
-
-pub product_fits : (x y : ℕ) → x < 2 ^ 32 → y < 2 ^ 32 → x * y < 2 ^ 64
-product_fits x y p q =
-    omega (arith, mul-le-mul {n₁ = x} {m₁ = y} {n₂ = 4294967295} {m₂ = 4294967295} (omega arith) (omega arith))

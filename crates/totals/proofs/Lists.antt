@@ -12,20 +12,20 @@ use lib.Dec.{ltb, eqb}
 use lib.ListN.{length, length-append}
 use lib.Seq.{append_snoc}
 use Rattle.lists.proofs.Bools.{clash}
-use Rattle.answers.specs.declared.Verdict.{Verdict}
+use Rattle.std.specs.Prelude.{Option, Some, None, Ok, Err}
+use Rattle.answers.specs.Faults.{Verdict}
 use Rattle.isa.specs.declared.Kind.{Kind}
 use Rattle.isa.specs.declared.Technique.{Technique}
 use Rattle.checker.specs.Verdicts.{verdict_of}
 use Rattle.parcel.specs.Parcel.{Content, holds, refused, read_of}
 use Rattle.report.specs.declared.Freedom.{Freedom}
-use Rattle.report.specs.declared.Answer.{Answer}
-use Rattle.report.specs.Figures.{words_of_kind, numerator_of, denominator_of, figures_of}
-use Rattle.report.specs.Reports.{report_by, report_of, content_report}
+use Rattle.report.specs.Figures.{words_of_kind, freedom, numerator_of, denominator_of, figures_of}
+use Rattle.report.specs.Reports.{Report, freedom_in, report_by, report_of, content_report}
 use Rattle.report.specs.Theorems.{sum, FreedomFits, Fits}
 use Rattle.report.proofs.Bounds.{freedoms_fit}
 use Rattle.totals.specs.declared.Largest.{Largest}
 use Rattle.totals.specs.declared.Totals.{Totals}
-use Rattle.totals.specs.Totals.{fresh_totals, largest_after, add_freedom, add_verdict, add_report}
+use Rattle.totals.specs.Totals.{fresh_totals, largest_at, largest_after, add_freedom, add_one, add_report}
 use Rattle.totals.specs.Theorems.{Handed, program, parcel, report_for, add_all, freedom_for, freedom_at}
 use Rattle.totals.specs.Theorems.{is_accepted, counts_program, counts_content, is_freedom, CountedExactly}
 use Rattle.totals.specs.Theorems.{LargestAt, LargestOf, Totalled, TotalsOfList}
@@ -40,41 +40,41 @@ fits_each : (x : Handed) → Fits (report_for x)
 fits_each (program t memory n edges) = freedoms_fit.of_program t memory n edges
 fits_each (parcel t bytes) = freedoms_fit.of_parcel t bytes
 
-fits_at : (xs : List Handed) (i c d : ℕ) → freedom_at xs i ≡ Freedom.Of c d → FreedomFits c d
+fits_at : (xs : List Handed) (i c d : ℕ) → freedom_at xs i ≡ Some (freedom c d) → FreedomFits c d
 fits_at [] i c d e = clash (cc)
 fits_at (x ∷ xs) zero c d e = fits_each x c d e
 fits_at (x ∷ xs) (suc i) c d e = fits_at xs i c d e
 
-both_small : (f : Freedom) → ((c d : ℕ) → f ≡ Freedom.Of c d → FreedomFits c d) → (numerator_of f < 2 ^ 32) × (denominator_of f < 2 ^ 32)
-both_small Freedom.NoJumps h = (omega arith, omega arith)
-both_small (Freedom.Of c d) h = ((h c d refl).edges_fit, (h c d refl).possible_fit)
+both_small : (f : Option Freedom) → ((c d : ℕ) → f ≡ Some (freedom c d) → FreedomFits c d) → (numerator_of f < 2 ^ 32) × (denominator_of f < 2 ^ 32)
+both_small None h = (omega arith, omega arith)
+both_small (Some f) h = ((h f.edges f.possible refl).edges_fit, (h f.edges f.possible refl).possible_fit)
 
 -- ---- sums
-abbrev sum_of : (Freedom → ℕ) → List Handed → ℕ
+abbrev sum_of : (Option Freedom → ℕ) → List Handed → ℕ
 sum_of part xs = sum (map (λ x. part (freedom_for x)) xs)
 
-sum_more : (part : Freedom → ℕ) (xs : List Handed) (x : Handed) → sum_of part (longer xs x) ≡ sum_of part xs + part (freedom_for x)
+sum_more : (part : Option Freedom → ℕ) (xs : List Handed) (x : Handed) → sum_of part (longer xs x) ≡ sum_of part xs + part (freedom_for x)
 unfolding sum
 sum_more part [] x = omega arith
 sum_more part (y ∷ ys) x = omega (arith, sum_more part ys x)
 
-sum_small : (part : Freedom → ℕ) → ((x : Handed) → part (freedom_for x) < 2 ^ 32) → (xs : List Handed)
+sum_small : (part : Option Freedom → ℕ) → ((x : Handed) → part (freedom_for x) < 2 ^ 32) → (xs : List Handed)
     → sum_of part xs ≤ length xs * 2 ^ 32
 unfolding sum
 sum_small part h [] = omega arith
 sum_small part h (x ∷ xs) = omega (arith, h x, sum_small part h xs)
 
 -- ---- the totals go by the freedom alone, since a refused one has none
-abbrev ByFreedom : Totals → Answer → Type 0
-ByFreedom t r = (add_verdict t r.verdict r.figures.freedom).totals ≡ (add_freedom t r.figures.freedom).totals
+abbrev ByFreedom : Totals → Report → Type 0
+ByFreedom t r = (add_one t r).totals ≡ (add_freedom t (freedom_in r)).totals
 
 program_by : (t : Totals) (q : Technique) (memory : List ℕ) (n : ℕ) (edges : List ℕ) → ByFreedom t (report_of q memory n edges)
 unfolding report_of
 program_by t q memory n edges = go (verdict_of q memory n edges)
   where
     go : (v : Verdict) → ByFreedom t (report_by v (figures_of memory n edges))
-    go Verdict.Accepted = refl
-    go (Verdict.Refused why place) = refl
+    go (Ok x) = refl
+    go (Err f) = refl
 
 content_by : (t : Totals) (q : Technique) (content : Content) → ByFreedom t (content_report q content)
 unfolding content_report
@@ -87,20 +87,20 @@ by_freedom t (parcel q bytes) = content_by t q (read_of 2 bytes)
 
 -- ---- which are counted
 program_counted : (q : Technique) (memory : List ℕ) (n : ℕ) (edges : List ℕ)
-    → is_freedom (report_of q memory n edges).figures.freedom ≡ counts_program q memory n edges
+    → is_freedom (freedom_in (report_of q memory n edges)) ≡ counts_program q memory n edges
 unfolding report_of figures_of
 program_counted q memory n edges = go (verdict_of q memory n edges)
   where
-    by : (b : Bool) (c d : ℕ) → is_freedom (cond b Freedom.NoJumps (Freedom.Of c d)) ≡ not b
+    by : (b : Bool) (c d : ℕ) → is_freedom (cond b None (Some (freedom c d))) ≡ not b
     by true c d = refl
     by false c d = refl
 
     go : (v : Verdict)
-        → is_freedom (report_by v (figures_of memory n edges)).figures.freedom ≡ (is_accepted v && not (eqb (words_of_kind memory n Kind.Jmp) 0))
-    go Verdict.Accepted = by (eqb (words_of_kind memory n Kind.Jmp) 0) _ _
-    go (Verdict.Refused why place) = refl
+        → is_freedom (freedom_in (report_by v (figures_of memory n edges))) ≡ (is_accepted v && not (eqb (words_of_kind memory n Kind.Jmp) 0))
+    go (Ok x) = by (eqb (words_of_kind memory n Kind.Jmp) 0) _ _
+    go (Err f) = refl
 
-content_counted : (q : Technique) (content : Content) → is_freedom (content_report q content).figures.freedom ≡ counts_content q content
+content_counted : (q : Technique) (content : Content) → is_freedom (freedom_in (content_report q content)) ≡ counts_content q content
 unfolding content_report
 content_counted q (holds code edges words) = program_counted q (code ++ words) (length code) edges
 content_counted q (refused why) = refl
@@ -122,12 +122,12 @@ at_end_lem [] x = refl
 at_end_lem (y ∷ ys) x = at_end_lem ys x
 
 module _ (xs : List Handed) (x : Handed) where
-  old_or_new : (i c d : ℕ) → freedom_at (longer xs x) i ≡ Freedom.Of c d
-      → (freedom_at xs i ≡ Freedom.Of c d) ⊎ ((i ≡ length xs) × (freedom_for x ≡ Freedom.Of c d))
+  old_or_new : (i c d : ℕ) → freedom_at (longer xs x) i ≡ Some (freedom c d)
+      → (freedom_at xs i ≡ Some (freedom c d)) ⊎ ((i ≡ length xs) × (freedom_for x ≡ Some (freedom c d)))
   old_or_new i c d h = ⊎_elim (λ e. inl (sym e ∙ h)) (λ e. inr (e.0, sym e.1 ∙ h)) (at_place xs x i)
 
   -- ---- the largest: it stays, or the new one takes its place
-  stays : (place a b : ℕ) → LargestAt xs place a b → ((c d : ℕ) → freedom_for x ≡ Freedom.Of c d → c * b ≤ a * d)
+  stays : (place a b : ℕ) → LargestAt xs place a b → ((c d : ℕ) → freedom_for x ≡ Some (freedom c d) → c * b ≤ a * d)
       → LargestAt (longer xs x) place a b
   stays place a b h less =
       record {
@@ -140,56 +140,63 @@ module _ (xs : List Handed) (x : Handed) where
             ⊎_elim (λ o. h.earlier_less i c d l o) (λ o. absurd (omega (arith, h.within, o.0))) (old_or_new i c d e);
       }
 
-  takes : (c d : ℕ) → freedom_for x ≡ Freedom.Of c d
-      → ((i e p : ℕ) → freedom_at xs i ≡ Freedom.Of e p → e * d < c * p) → LargestAt (longer xs x) (length xs) c d
+  takes : (c d : ℕ) → freedom_for x ≡ Some (freedom c d)
+      → ((i e p : ℕ) → freedom_at xs i ≡ Some (freedom e p) → e * d < c * p) → LargestAt (longer xs x) (length xs) c d
   takes c d h less =
       record {
         within = omega (arith, length-append xs (x ∷ []));
         its_freedom = at_end_lem xs x ∙ h;
         no_other_passes = λ i e p q.
-            ⊎_elim (λ o. le_of_lt (less i e p o)) (λ o. let same = o.1 in le_of_eq (cc)) (old_or_new i e p q);
+            ⊎_elim (λ o. le_of_lt (less i e p o)) (λ o.
+            let y : e ≡ c = ap numerator_of (sym o.1 ∙ h) in
+            let z : p ≡ d = ap denominator_of (sym o.1 ∙ h) in
+            le_of_eq (cc)) (old_or_new i e p q);
         earlier_less = λ i e p l q. ⊎_elim (λ o. less i e p o) (λ o. absurd (omega (arith, o.0))) (old_or_new i e p q);
       }
 
-  largest_more : (c d : ℕ) → freedom_for x ≡ Freedom.Of c d → (l : Largest) → LargestOf xs l
-      → LargestOf (longer xs x) (largest_after (length xs) c d l)
-  largest_more c d h Largest.NoParcel none = takes c d h (λ i e p q. clash (cc (none i)))
-  largest_more c d h (Largest.Parcel place a b) old = go (ltb (a * d) (c * b)) refl
+  largest_more : (f : Freedom) → freedom_for x ≡ Some f → (l : Option Largest) → LargestOf xs l
+      → LargestOf (longer xs x) (largest_after (length xs) f l)
+  largest_more f h None none = takes f.edges f.possible h (λ i e p q. clash (cc (none i)))
+  largest_more f h (Some old) found = go (ltb (old.freedom.edges * f.possible) (f.edges * old.freedom.possible)) refl
     where
-      go : (t : Bool) → ltb (a * d) (c * b) ≡ t
-          → LargestOf (longer xs x) (cond t (Largest.Parcel (length xs) c d) (Largest.Parcel place a b))
+      go : (t : Bool) → ltb (old.freedom.edges * f.possible) (f.edges * old.freedom.possible) ≡ t
+          → LargestOf (longer xs x) (cond t (Some (largest_at (length xs) f)) (Some old))
       go true t =
-          takes c d h
+          takes f.edges f.possible h
           (λ i e p q.
-          still_less e p a b c d (fits_at xs i e p q).some_possible (old.no_other_passes i e p q) (ltb-true _ _ t))
+          still_less e p old.freedom.edges old.freedom.possible f.edges f.possible (fits_at xs i e p q).some_possible (found.no_other_passes i e p q) (ltb-true _ _ t))
       go false t =
-          stays place a b old (λ e p q. let y : e ≡ c = cc in let z : p ≡ d = cc in rw (y, z) (ltb-false _ _ t))
+          stays old.parcel old.freedom.edges old.freedom.possible found
+          (λ e p q.
+          let y : e ≡ f.edges = ap numerator_of (sym q ∙ h) in
+          let z : p ≡ f.possible = ap denominator_of (sym q ∙ h) in
+          rw (y, z) (ltb-false _ _ t))
 
-  largest_passed : freedom_for x ≡ Freedom.NoJumps → (l : Largest) → LargestOf xs l → LargestOf (longer xs x) l
-  largest_passed h Largest.NoParcel none = λ i. ⊎_elim (λ e. e ∙ none i) (λ e. e.1 ∙ h) (at_place xs x i)
-  largest_passed h (Largest.Parcel place a b) old = stays place a b old (λ c d q. clash (cc))
+  largest_passed : freedom_for x ≡ None → (l : Option Largest) → LargestOf xs l → LargestOf (longer xs x) l
+  largest_passed h None none = λ i. ⊎_elim (λ e. e ∙ none i) (λ e. e.1 ∙ h) (at_place xs x i)
+  largest_passed h (Some old) found = stays old.parcel old.freedom.edges old.freedom.possible found (λ c d q. clash (cc))
 
   -- ---- one more
-  freedom_more : (t : Totals) → Totalled xs t → length xs < 65535 → (f : Freedom) → freedom_for x ≡ f
+  freedom_more : (t : Totals) → Totalled xs t → length xs < 65535 → (f : Option Freedom) → freedom_for x ≡ f
       → Totalled (longer xs x) (add_freedom t f).totals
-  freedom_more t h l Freedom.NoJumps e =
+  freedom_more t h l None e =
       record {
         all_placed = omega (arith, h.all_placed, length-append xs (x ∷ []));
         edges_added = omega (arith, h.edges_added, sum_more numerator_of xs x, ap numerator_of e);
         possible_added = omega (arith, h.possible_added, sum_more denominator_of xs x, ap denominator_of e);
         largest_found = largest_passed e t.largest h.largest_found;
       }
-  freedom_more t h l (Freedom.Of c d) e =
-      let fits = fits_each x c d e in
+  freedom_more t h l (Some f) e =
+      let fits = fits_each x f.edges f.possible e in
       let edges-low = sum_small numerator_of (λ y. (both_small (freedom_for y) (fits_each y)).0) xs in
       let possible-low = sum_small denominator_of (λ y. (both_small (freedom_for y) (fits_each y)).1) xs in
       rw
-      (lt-ltb (t.edges + c) (2 ^ 64) (omega (arith, h.edges_added)), lt-ltb (t.possible + d) (2 ^ 64) (omega (arith, h.possible_added)))
+      (lt-ltb (t.edges + f.edges) (2 ^ 64) (omega (arith, h.edges_added)), lt-ltb (t.possible + f.possible) (2 ^ 64) (omega (arith, h.possible_added)))
       (record {
         all_placed = omega (arith, h.all_placed, length-append xs (x ∷ []));
         edges_added = omega (arith, h.edges_added, sum_more numerator_of xs x, ap numerator_of e);
         possible_added = omega (arith, h.possible_added, sum_more denominator_of xs x, ap denominator_of e);
-        largest_found = rw h.all_placed (largest_more c d e t.largest h.largest_found);
+        largest_found = rw h.all_placed (largest_more f e t.largest h.largest_found);
       })
 
   step : (t : Totals) → Totalled xs t → length xs < 65535

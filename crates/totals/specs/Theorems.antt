@@ -1,15 +1,14 @@
 -- What the totals come to, over a list of at most 65,535 programs and parcels added one after the other to fresh totals.
 -- `proofs/Lists.antt` has the proofs.
-use Rattle.std.specs.Prelude.{ℕ, ◌*◌, ◌≤◌, ◌<◌, ◌≡◌, Bool, true, false, not, ◌&&◌, List, [], ◌∷◌, ◌++◌, map, eqb, length, get_or}
-use Rattle.answers.specs.declared.Verdict.{Verdict}
+use Rattle.std.specs.Prelude.{ℕ, ◌*◌, ◌≤◌, ◌<◌, ◌≡◌, Bool, true, false, not, ◌&&◌, List, [], ◌∷◌, ◌++◌, map, eqb, length, get_or, Option, Some, None, Ok, Err}
+use Rattle.answers.specs.Faults.{Verdict}
 use Rattle.isa.specs.declared.Kind.{Kind}
 use Rattle.isa.specs.declared.Technique.{Technique}
 use Rattle.checker.specs.Verdicts.{verdict_of}
 use Rattle.parcel.specs.Parcel.{Content, holds, refused, read_of}
 use Rattle.report.specs.declared.Freedom.{Freedom}
-use Rattle.report.specs.declared.Answer.{Answer}
-use Rattle.report.specs.Figures.{words_of_kind, numerator_of, denominator_of}
-use Rattle.report.specs.Reports.{report_of, parcel_report}
+use Rattle.report.specs.Figures.{words_of_kind, freedom, numerator_of, denominator_of}
+use Rattle.report.specs.Reports.{Report, freedom_in, report_of, parcel_report}
 use Rattle.report.specs.Theorems.{sum}
 use Rattle.totals.specs.declared.Largest.{Largest}
 use Rattle.totals.specs.declared.Totals.{Totals}
@@ -20,7 +19,7 @@ pub data Handed : Type 0 where
   program : (t : Technique) (memory : List ℕ) (n : ℕ) (edges : List ℕ) → Handed
   parcel : (t : Technique) (bytes : List ℕ) → Handed
 
-abbrev pub report_for : Handed → Answer
+abbrev pub report_for : Handed → Report
 report_for (program t memory n edges) = report_of t memory n edges
 report_for (parcel t bytes) = parcel_report t bytes
 
@@ -31,8 +30,8 @@ add_all t (x ∷ xs) = add_all (add_report t (report_for x)).totals xs
 
 -- Which of them are counted: the accepted ones that have a jump. A refused one, and one without jumps, is passed over.
 abbrev pub is_accepted : Verdict → Bool
-is_accepted Verdict.Accepted = true
-is_accepted (Verdict.Refused why place) = false
+is_accepted (Ok x) = true
+is_accepted (Err f) = false
 
 abbrev pub counts_program : Technique → List ℕ → ℕ → List ℕ → Bool
 counts_program t memory n edges = is_accepted (verdict_of t memory n edges) && not (eqb (words_of_kind memory n Kind.Jmp) 0)
@@ -46,30 +45,30 @@ is_counted (program t memory n edges) = counts_program t memory n edges
 is_counted (parcel t bytes) = counts_content t (read_of 2 bytes)
 
 -- the freedom in the report of each: there is one exactly where it is counted
-abbrev pub freedom_for : Handed → Freedom
-freedom_for x = (report_for x).figures.freedom
+abbrev pub freedom_for : Handed → Option Freedom
+freedom_for x = freedom_in (report_for x)
 
-abbrev pub is_freedom : Freedom → Bool
-is_freedom Freedom.NoJumps = false
-is_freedom (Freedom.Of c d) = true
+abbrev pub is_freedom : Option Freedom → Bool
+is_freedom None = false
+is_freedom (Some f) = true
 
 abbrev pub CountedExactly : Type 0
 CountedExactly = (x : Handed) → is_freedom (freedom_for x) ≡ is_counted x
 
-abbrev pub freedom_at : List Handed → ℕ → Freedom
-freedom_at xs i = get_or (map freedom_for xs) i Freedom.NoJumps
+abbrev pub freedom_at : List Handed → ℕ → Option Freedom
+freedom_at xs i = get_or (map freedom_for xs) i None
 
 -- a of b, at this place, is the largest freedom: no other's passes it, and every earlier one is less
 pub record LargestAt (xs : List Handed) (place a b : ℕ) : Type 0 where
   pub within : place < length xs
-  pub its_freedom : freedom_at xs place ≡ Freedom.Of a b
-  pub no_other_passes : (i c d : ℕ) → freedom_at xs i ≡ Freedom.Of c d → c * b ≤ a * d
-  pub earlier_less : (i c d : ℕ) → i < place → freedom_at xs i ≡ Freedom.Of c d → c * b < a * d
+  pub its_freedom : freedom_at xs place ≡ Some (freedom a b)
+  pub no_other_passes : (i c d : ℕ) → freedom_at xs i ≡ Some (freedom c d) → c * b ≤ a * d
+  pub earlier_less : (i c d : ℕ) → i < place → freedom_at xs i ≡ Some (freedom c d) → c * b < a * d
 
 -- "where all are passed over the answer is none"
-abbrev pub LargestOf : List Handed → Largest → Type 0
-LargestOf xs Largest.NoParcel = (i : ℕ) → freedom_at xs i ≡ Freedom.NoJumps
-LargestOf xs (Largest.Parcel place a b) = LargestAt xs place a b
+abbrev pub LargestOf : List Handed → Option Largest → Type 0
+LargestOf xs None = (i : ℕ) → freedom_at xs i ≡ None
+LargestOf xs (Some l) = LargestAt xs l.parcel l.freedom.edges l.freedom.possible
 
 pub record Totalled (xs : List Handed) (t : Totals) : Type 0 where
   -- every one keeps its place, so none was turned away

@@ -1,57 +1,44 @@
 // Totals over parcels (document 02, K1): the freedoms of up to 65,535 of them added, and which one's is the largest.
 #![tactic(auto)]
 
-ghost use Rattle.std.specs.Prelude.{◌≡◌, ◌+◌, ◌*◌, ◌^◌, ◌<◌};
+ghost use Rattle.std.specs.Prelude.{◌≡◌, ◌<◌};
 ghost use Rattle.report.specs.Reports.{report_of, parcel_report};
-ghost use Rattle.totals.specs.Totals.{addition, fresh_totals, add_report, add_verdict, add_freedom, counted, passed_over, largest_after, is_larger};
+ghost use Rattle.totals.specs.Totals.{addition, fresh_totals, add_report, add_freedom, passed_over, largest_after, is_larger};
 
-use answers::{Place, Refusal, Verdict};
+use answers::Fault;
 use isa::Technique;
-use report::{Answer, Freedom};
+use report::{Figures, Freedom};
 
-// The parcel with the largest freedom: its place, counted from 0, its distinct edges and its possible ones.
-#[derive(Clone, Copy)]
-pub enum Largest {
-    NoParcel,
-    Parcel(u16, u32, u32),
+// The parcel with the largest freedom: its place, counted from 0, and its freedom.
+#[derive(Clone, Copy, Debug, PartialEq, Eq)]
+pub struct Largest {
+    pub parcel: u16,
+    pub freedom: Freedom,
 }
 
 // How many parcels were added, those passed over included; the sums of the others' distinct edges and of their possible ones.
-#[derive(Clone, Copy)]
+#[derive(Clone, Copy, Debug, PartialEq, Eq)]
 pub struct Totals {
     pub parcels: u16,
     pub edges: u64,
     pub possible: u64,
-    pub largest: Largest,
+    pub largest: Option<Largest>,
 }
 
 // What became of a parcel. Without jumps or refused, it is passed over, but keeps its place; where 65,535 are in, or a sum
 // would pass 64 bits, they are given back as they were.
-#[derive(Clone, Copy)]
+#[derive(Clone, Copy, Debug, PartialEq, Eq)]
 pub enum Added {
     Counted,
     WithoutJumps,
-    Refused(Refusal, Place),
+    Refused(Fault),
     Unchanged,
 }
 
-#[derive(Clone, Copy)]
+#[derive(Clone, Copy, Debug, PartialEq, Eq)]
 pub struct Addition {
     pub totals: Totals,
     pub answer: Added,
-}
-
-impl Totals {
-    pub fn fresh() -> Self
-        ensures { result ≡ fresh_totals }
-    {
-        Self {
-            parcels: 0,
-            edges: 0,
-            possible: 0,
-            largest: Largest::NoParcel,
-        }
-    }
 }
 
 // Adds a program that has been read.
@@ -76,115 +63,98 @@ pub fn add_parcel(totals: Totals, technique: Technique, parcel: &[u8]) -> Additi
 
 // Adds what a report tells of a program or a parcel.
 #[tactic(auto, unfolding(crate::specs::Totals::add_report))]
-pub fn add_report(totals: Totals, report: Answer) -> Addition
+pub fn add_report(totals: Totals, report: Result<Figures, Fault>) -> Addition
     ensures { result ≡ add_report totals report }
 {
-    let verdict = report.verdict;
-    let figures = report.figures;
-    let freedom = figures.freedom;
-    if totals.parcels < 65535 {
-        return add_verdict(totals, verdict, freedom);
+    if totals.parcels == 65535 {
+        return unchanged(totals);
     }
-    give_back(totals)
-}
-
-fn add_verdict(totals: Totals, verdict: Verdict, freedom: Freedom) -> Addition
-    requires { totals.parcels < 65535 }
-    ensures { result ≡ add_verdict totals verdict freedom }
-{
-    match verdict {
-        Verdict::Accepted => add_freedom(totals, freedom),
-        Verdict::Refused(why, place) => pass_over(totals, Added::Refused(why, place)),
-    }
-}
-
-fn add_freedom(totals: Totals, freedom: Freedom) -> Addition
-    requires { totals.parcels < 65535 }
-    ensures { result ≡ add_freedom totals freedom }
-{
-    match freedom {
-        Freedom::NoJumps => pass_over(totals, Added::WithoutJumps),
-        Freedom::Of(edges, possible) => add_numbers(totals, edges, possible),
-    }
-}
-
-// Each sum is tested before it is made.
-fn add_numbers(totals: Totals, edges: u32, possible: u32) -> Addition
-    requires { totals.parcels < 65535 }
-    ensures { result ≡ add_freedom totals (Freedom.Of edges possible) }
-{
-    if 0xffff_ffff_ffff_ffff - totals.edges < edges as u64 {
-        return give_back(totals);
-    }
-    if 0xffff_ffff_ffff_ffff - totals.possible < possible as u64 {
-        return give_back(totals);
-    }
-    count_in(totals, edges, possible)
-}
-
-fn count_in(totals: Totals, edges: u32, possible: u32) -> Addition
-    requires { (totals.parcels < 65535) × (totals.edges + edges < 2 ^ 64) × (totals.possible + possible < 2 ^ 64) }
-    ensures { result ≡ addition (counted totals edges possible) Added.Counted }
-{
-    let so_far = totals.largest;
-    let largest = largest_after(totals.parcels, edges, possible, so_far);
-    Addition {
-        totals: Totals {
-            parcels: totals.parcels + 1,
-            edges: totals.edges + edges as u64,
-            possible: totals.possible + possible as u64,
-            largest: largest,
+    match report {
+        Err(fault) => totals.pass_over(Added::Refused(fault)),
+        Ok(figures) => match figures.freedom {
+            None => totals.pass_over(Added::WithoutJumps),
+            Some(freedom) => totals.count_in(freedom),
         },
-        answer: Added::Counted,
     }
 }
 
-// One parcel more, and nothing else.
-fn pass_over(before: Totals, answer: Added) -> Addition
-    requires { before.parcels < 65535 }
-    ensures { result ≡ addition (passed_over before) answer }
-{
-    let largest = before.largest;
-    Addition {
-        totals: Totals {
-            parcels: before.parcels + 1,
-            edges: before.edges,
-            possible: before.possible,
-            largest: largest,
-        },
-        answer: answer,
+impl Totals {
+    pub fn fresh() -> Self
+        ensures { result ≡ fresh_totals }
+    {
+        Self {
+            parcels: 0,
+            edges: 0,
+            possible: 0,
+            largest: None,
+        }
+    }
+
+    // One parcel more, and nothing else.
+    fn passed_over(self) -> Self
+        requires { self.parcels < 65535 }
+        ensures { result ≡ passed_over self }
+    {
+        Self {
+            parcels: self.parcels + 1,
+            ..self
+        }
+    }
+
+    fn pass_over(self, answer: Added) -> Addition
+        requires { self.parcels < 65535 }
+        ensures { result ≡ addition (passed_over self) answer }
+    {
+        Addition {
+            totals: self.passed_over(),
+            answer,
+        }
+    }
+
+    // One parcel more and its freedom, unless a sum would pass 64 bits.
+    fn count_in(self, freedom: Freedom) -> Addition
+        requires { self.parcels < 65535 }
+        ensures { result ≡ add_freedom self (Some freedom) }
+    {
+        let Some(edges) = self.edges.checked_add(u64::from(freedom.edges)) else {
+            return unchanged(self);
+        };
+        let Some(possible) = self.possible.checked_add(u64::from(freedom.possible)) else {
+            return unchanged(self);
+        };
+        Addition {
+            totals: Self {
+                edges,
+                possible,
+                largest: largest_after(self.parcels, freedom, self.largest),
+                ..self.passed_over()
+            },
+            answer: Added::Counted,
+        }
     }
 }
 
-fn give_back(totals: Totals) -> Addition
+fn unchanged(totals: Totals) -> Addition
     ensures { result ≡ addition totals Added.Unchanged }
 {
     Addition {
-        totals: totals,
+        totals,
         answer: Added::Unchanged,
     }
 }
 
-fn largest_after(place: u16, edges: u32, possible: u32, largest: Largest) -> Largest
-    ensures { result ≡ largest_after place edges possible largest }
-{
-    if is_larger(edges, possible, largest) {
-        return Largest::Parcel(place, edges, possible);
-    }
-    largest
-}
-
-fn is_larger(edges: u32, possible: u32, largest: Largest) -> bool
-    ensures { result ≡ is_larger edges possible largest }
+fn largest_after(parcel: u16, freedom: Freedom, largest: Option<Largest>) -> Option<Largest>
+    ensures { result ≡ largest_after parcel freedom largest }
 {
     match largest {
-        Largest::NoParcel => true,
-        Largest::Parcel(_, a, b) => product(a, possible) < product(edges, b),
+        Some(earlier) if !is_larger(freedom, earlier.freedom) => largest,
+        _ => Some(Largest { parcel, freedom }),
     }
 }
 
-fn product(x: u32, y: u32) -> u64
-    ensures { result ≡ x * y }
+fn is_larger(freedom: Freedom, earlier: Freedom) -> bool
+    ensures { result ≡ is_larger freedom earlier }
 {
-    (x as u64) * (y as u64)
+    u64::from(earlier.edges) * u64::from(freedom.possible)
+        < u64::from(freedom.edges) * u64::from(earlier.possible)
 }

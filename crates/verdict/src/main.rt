@@ -16,16 +16,16 @@ fn main(rt: HostRuntime) -> io::Result<()> {
     rt.write_all(&text[..size])
 }
 
-// Reads until the place is full, the input ends or a read fails, and answers how many bytes it put at the front.
+// Reads until the place is full, the input ends or a read fails, and answers how many bytes it put at the front. A `while`, since a read
+// takes as many bytes as there are; of std, `read_exact` and `copy` don't say how many came, and `read_to_end` needs a heap.
 fn read_full<R: Read>(input: &mut R, place: &mut [u8]) -> usize
     ensures { result ≤ length place.new }
 {
     let mut done = 0;
     while done < place.len() {
         match input.read(&mut place[done..]) {
-            Ok(0) => break,
+            Ok(0) | Err(_) => break,
             Ok(n) => done += n,
-            Err(_) => break,
         }
     }
     done

@@ -2,22 +2,21 @@
 use Prim.Native.Nat.{ℕ}
 use mathlib.Core.Path.{◌≡◌}
 use mathlib.Core.List.{List}
-use Rattle.parcel.specs.Parcel.{read_of, memory_in, edges_in, after_read, after_write}
-use Rattle.parcel.specs.declared.Read.{Read}
-use Rattle.parcel.specs.declared.Written.{Written}
+use Rattle.parcel.specs.Parcel.{Read, Written, read_of, memory_in, edges_in, after_read, after_write}
+use Rattle.std.specs.Prelude.{Ok, Err}
 use Rattle.capi.specs.Parcels.{read_number, read_call, counts_after, written_parcel_number, count_after}
 use Rattle.wide.specs.Calls.{put_short}
 use Rattle.wide.specs.Theorems.{RefusedWideCallsChangeNothing}
 
 not_put : (a : Written) (bytes parcel count : List ℕ) {r : ℕ} {parcel' count' : List ℕ} → r ≡ written_parcel_number a → parcel' ≡ after_write a bytes parcel
     → count' ≡ count_after a count → (r ≡ 0 → ⊥) → (parcel' ≡ parcel) × (count' ≡ count)
-not_put (Written.Bytes size) bytes parcel count e f g some = absurd (some e)
-not_put (Written.Refused why at) bytes parcel count e f g some = (f, g)
+not_put (Ok size) bytes parcel count e f g some = absurd (some e)
+not_put (Err f₀) bytes parcel count e f g some = (f, g)
 
 not_read : (a : Read) (m g new-m new-g counts : List ℕ) {r : ℕ} {m' g' counts' : List ℕ} → r ≡ read_number a → m' ≡ after_read a new-m m → g' ≡ after_read a new-g g
     → counts' ≡ counts_after a counts → (r ≡ 0 → ⊥) → (m' ≡ m) × (g' ≡ g) × (counts' ≡ counts)
-not_read (Read.Counts code edges words) m g new-m new-g counts e f h k some = absurd (some e)
-not_read (Read.Refused why at) m g new-m new-g counts e f h k some = (f, h, k)
+not_read (Ok found) m g new-m new-g counts e f h k some = absurd (some e)
+not_read (Err f₀) m g new-m new-g counts e f h k some = (f, h, k)
 
 pub refused_wide_calls_change_nothing : RefusedWideCallsChangeNothing
 refused_wide_calls_change_nothing =

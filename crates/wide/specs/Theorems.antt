@@ -1,7 +1,7 @@
 -- What the header says of the calls on the second edition that are refused: they change nothing then, but for the place of the refusal
 -- itself. `proofs/Unchanged.antt` has the proofs.
 use Rattle.std.specs.Prelude.{ℕ, ◌≡◌, Bool, List}
-use Rattle.parcel.specs.declared.Written.{Written}
+use Rattle.parcel.specs.Parcel.{Written}
 use Rattle.capi.specs.Parcels.{ReadCall}
 use Rattle.wide.specs.Calls.{PutCall}
 

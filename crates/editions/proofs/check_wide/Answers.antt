@@ -11,7 +11,7 @@ use mathlib.Core.Bool.{not}
 
 pub returns-then-not-call_shaped : goal.returns-then-not-call_shaped
 unfolding verdict_of
-returns-then-not-call_shaped c = sym (broken_once _ _ _ _ (ap not (sym c.call_shaped.ensures ∙ c.if-not-call_shaped.true)))
+returns-then-not-call_shaped c = rw c.nowhere.ensures (sym (broken_once _ _ _ _ (ap not (sym c.call_shaped.ensures ∙ c.if-not-call_shaped.true))))
 
 pub returns : goal.returns
 returns c =

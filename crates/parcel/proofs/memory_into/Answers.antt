@@ -10,4 +10,4 @@ returns c =
     let a = c.args in
     let s = a.parcel.now in
     put_after (numbers_of 8 a.code (drop 4 s)) (numbers_of 8 a.words (drop a.at s)) a.memory.now a.code
-    (length_numbers 8 a.code (drop 4 s)) (omega arith) c.words_into.ensures c.words_into-2.ensures
+    (length_numbers 8 a.code (drop 4 s)) (omega arith) c.numbers_into.ensures c.numbers_into-2.ensures

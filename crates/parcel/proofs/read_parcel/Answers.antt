@@ -1,24 +1,37 @@
--- `parcel::read_parcel` meets its contract: nothing is put where the answer is a refusal, and code, data and edges where it is none (`ReaderAnswers`).
-use Rattle.std.proofs.Common.{sym, ◌∙◌, arith, length}
-use Rattle.parcel.proofs.ReaderAnswers.{fitting, read_put}
+-- `parcel::read_parcel` meets its contract: code, data and edges are put where the answer is no refusal (`ReaderAnswers`).
+use Rattle.std.proofs.Common.{length, arith}
+use Rattle.rising.proofs.Numbers.{numbers_length}
+use Rattle.parcel.proofs.ReaderAnswers.{fitting, pairs_small, read_put}
 use Rattle.parcel.proofs.read_parcel.Goals as goal
 
-pub overflow_add-code-2 : goal.overflow_add-code-2
-overflow_add-code-2 c = let t = fitting 2 c.args.parcel.now _ _ (sym c.in-Counts.is ∙ c.room_for-found.ensures) in let f = t.all in omega arith
+pub overflow_mul-found-2 : goal.overflow_mul-found-2
+overflow_mul-found-2 g c =
+    let t = fitting c.WIDTH-width.result c.args.parcel.now (length c.args.memory.now) (length c.args.edges.now) c.in_ok-found.ensures in
+    let small = g.met.E.InBytes.small in
+    let p = pairs_small t.all (omega (arith, small, c.WIDTH-width.ensures)) in
+    omega arith
+
+pub overflow_add-found-2 : goal.overflow_add-found-2
+overflow_add-found-2 g c =
+    let t = fitting c.WIDTH-width.result c.args.parcel.now (length c.args.memory.now) (length c.args.edges.now) c.in_ok-found.ensures in
+    let small = g.met.E.InBytes.small in
+    let p = pairs_small t.all (omega (arith, small, c.WIDTH-width.ensures)) in
+    let n = t.all.code_limit in
+    omega arith
 
 pub memory_into-requires : goal.memory_into-requires
-memory_into-requires c =
-    let a = c.args in
-    let t = fitting 2 a.parcel.now (length a.memory.now) (length a.edges.now) (sym c.in-Counts.is ∙ c.room_for-found.ensures) in
+memory_into-requires g c =
+    let t = fitting c.WIDTH-width.result c.args.parcel.now (length c.args.memory.now) (length c.args.edges.now) c.in_ok-found.ensures in
     let f = t.all in
     (omega arith, omega arith, t.words)
 
-pub edges_into-requires : goal.edges_into-requires
-edges_into-requires c =
-    let a = c.args in
-    let t = fitting 2 a.parcel.now (length a.memory.now) (length a.edges.now) (sym c.in-Counts.is ∙ c.room_for-found.ensures) in
+pub numbers_into-requires : goal.numbers_into-requires
+numbers_into-requires g c =
+    let t = fitting c.WIDTH-width.result c.args.parcel.now (length c.args.memory.now) (length c.args.edges.now) c.in_ok-found.ensures in
     let f = t.all in
-    (omega arith, t.numbers)
+    (rw (← c.WIDTH-width.ensures) (omega arith), t.numbers)
 
 pub returns : goal.returns
-returns c = read_put (sym c.in-Counts.is ∙ c.room_for-found.ensures) c.memory_into.ensures c.edges_into.ensures
+returns g c =
+    let long = numbers_length g.E.Number.numbers g.E.Number.number g.E.Number.each c.args.edges.now in
+    read_put (rw (long, ← c.WIDTH-width.ensures) c.in_ok-found.ensures) (rw (← c.WIDTH-width.ensures) c.memory_into.ensures) c.numbers_into.ensures

@@ -1,6 +1,7 @@
 -- `pg_narrow` meets its contract: the part of the place that may be used is all of it, or none (`Calls`).
 use Rattle.parcel.specs.Parcel.{read_of}
-use Rattle.wide.proofs.Calls.{careful_narrow, put_done}
+use Rattle.capi.proofs.Puts.{put_done}
+use Rattle.wide.proofs.Calls.{careful_narrow}
 use Rattle.wide.proofs.pg_narrow.Goals as goal
 
 pub returns : goal.returns

@@ -1,40 +1,51 @@
-use mathlib.Core.Path.{sym, ◌∙◌}
+use Rattle.std.proofs.Common.{◌<◌}
 use native.Mathlib.Omega.{arith}
+use Rattle.graph.specs.Claim.{edge_count}
 use Rattle.lists.proofs.Bools.{and_left, and_right}
+use Rattle.rising.proofs.Rising.{clean_rising}
 use Rattle.checker.proofs.Runs.{run_at, cut_at, cut_run, cut_between, jumps_rise, edges_of}
 use Rattle.checker.proofs.TargetSets.{put_skip}
 use Rattle.checker.proofs.sets.put_sets.Goals as goal
 
-pub put_set-it_fits-requires : goal.put_set-it_fits-requires
-put_set-it_fits-requires c =
-    let within = c.requires.0 in
-    let rising = c.requires.1 in
-    let cut = cut_at _ rising _ _ c.loop-k.invariant.2 c.loop-k-test.true in
-    let run = run_at c.args.edges.now _ _ c.jump_of-j.ensures.is c.run_end-end.ensures in (
-      within,
-      edges_of _ rising _ within _ _ cut run c.loop-k-test.true,
-      put_skip _ _ within _ _ _ _ (c.loop-k.invariant.2.above c.loop-k.k (omega arith) c.loop-k-test.true)
-          (cut_between _ rising c.args.n _ _ _ c.loop-k.invariant.2 (jumps_rise c.args.edges.now rising c.loop-k.k))
-          c.loop-k.invariant.3,
-    )
+pub invariant_of-set : goal.invariant_of-set
+invariant_of-set c =
+    let edges = c.args.claim.now.edges.now in
+    let rising = clean_rising edges c.args.claim.now.claimed.rising in
+    let low : c.loop-first.first < edge_count c.args.claim.now.edges.now = omega (arith, c.loop-first-test.true, c.count-m.ensures) in
+    record {
+      edges_of = edges_of edges rising _ c.args.claim.now.claimed.within _ _ (cut_at _ rising _ _ c.loop-first.invariant.2 low)
+          (run_at edges _ _ c.jump-j.ensures.is c.run_end-end.ensures) low;
+    }
 
-pub loop-k-preserved : goal.loop-k-preserved
-loop-k-preserved c =
-    let run = run_at c.args.edges.now _ _ c.jump_of-j.ensures.is c.run_end-end.ensures in (
+pub put-it_fits-requires : goal.put-it_fits-requires
+put-it_fits-requires c =
+    let edges = c.args.claim.now.edges.now in
+    let rising = clean_rising edges c.args.claim.now.claimed.rising in
+    let low : c.loop-first.first < edge_count c.args.claim.now.edges.now = omega (arith, c.loop-first-test.true, c.count-m.ensures) in
+    put_skip _ _ c.args.claim.now.claimed.within _ _ _ _ (c.loop-first.invariant.2.above c.loop-first.first (omega arith) low)
+    (cut_between _ rising c.args.claim.now.code.n _ _ _ c.loop-first.invariant.2 (jumps_rise edges rising c.loop-first.first))
+    c.loop-first.invariant.3
+
+pub loop-first-preserved : goal.loop-first-preserved
+loop-first-preserved c =
+    let edges = c.args.claim.now.edges.now in
+    let rising = clean_rising edges c.args.claim.now.claimed.rising in
+    let low : c.loop-first.first < edge_count c.args.claim.now.edges.now = omega (arith, c.loop-first-test.true, c.count-m.ensures) in
+    let run = run_at edges _ _ c.jump-j.ensures.is c.run_end-end.ensures in (
       _,
-      omega (arith, c.requires.0.jumps c.loop-k.k c.loop-k-test.true),
-      cut_run _ c.requires.1 _ _ _ (cut_at _ c.requires.1 _ _ c.loop-k.invariant.2 c.loop-k-test.true) run,
-      c.put_set-it_fits.ensures.put,
-      λ e t l z.
-          let both = sym c.both-fitting.ensures ∙ e in
-          c.loop-k.invariant.4 (and_left _ _ both) t l (c.put_set-it_fits.ensures.calm (and_right c.loop-k.fitting _ both) t l z),
+      omega (arith, c.args.claim.now.claimed.within.jumps c.loop-first.first low),
+      cut_run _ rising _ _ _ (cut_at _ rising _ _ c.loop-first.invariant.2 low) run,
+      c.put-it_fits.ensures.put,
+      λ e t l z. c.loop-first.invariant.4 (and_left _ c.put-it_fits.result e) t l
+          (c.put-it_fits.ensures.calm (and_right c.loop-first.fitting _ e) t l z),
     )
 
 pub returns : goal.returns
 returns c =
     record {
-      met = (put_skip _ _ c.requires.0 _ _ _ _ c.loop-k.invariant.1
-          (cut_between _ c.requires.1 c.args.n _ _ _ c.loop-k.invariant.2 (λ i l q. absurd (omega (arith, c.loop-k-test.false))))
-          c.loop-k.invariant.3).met;
-      calm = c.loop-k.invariant.4;
+      met = (put_skip _ _ c.args.claim.now.claimed.within _ _ _ _ c.loop-first.invariant.1
+          (cut_between _ (clean_rising _ c.args.claim.now.claimed.rising) c.args.claim.now.code.n _ _ _ c.loop-first.invariant.2
+          (λ i l q. absurd (omega (arith, c.loop-first-test.false, c.count-m.ensures))))
+          c.loop-first.invariant.3).met;
+      calm = c.loop-first.invariant.4;
     }

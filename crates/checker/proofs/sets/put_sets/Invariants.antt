@@ -6,8 +6,8 @@ use mathlib.Core.Bool.{true}
 use mathlib.Core.Logic.{◌≢◌}
 use Rattle.checker.proofs.sets.put_sets.Given as goal
 
-abbrev pub invariant-loop-k : goal.invariant-loop-k
-invariant-loop-k l = (a : ℕ) × (a ≤ l.n) × Cut l.edges a l.k × Put l.edges l.n a l.own l.size × (l.fitting ≡ true → (t : ℕ) → t < l.n → get_or l.own t 0 ≢ l.n + 1)
+abbrev pub invariant-loop-first : goal.invariant-loop-first
+invariant-loop-first l = (a : ℕ) × (a ≤ l.claim.code.n) × Cut l.claim.edges.now a l.first × Put l.claim.edges.now l.claim.code.n a l.own l.size × (l.fitting ≡ true → (t : ℕ) → t < l.claim.code.n → get_or l.own t 0 ≢ l.claim.code.n + 1)
 
-abbrev pub decreases-loop-k : goal.decreases-loop-k
-decreases-loop-k l = l.m - l.k
+abbrev pub decreases-loop-first : goal.decreases-loop-first
+decreases-loop-first l = l.m - l.first

@@ -4,6 +4,4 @@ use Rattle.editions.proofs.Converting.{edge_high}
 use Rattle.editions.proofs.numbers.has_high_half.Goals as goal
 
 pub returns : goal.returns
-returns c =
-    (λ j. nat_lt 0 (c.two_at.ensures.0 j + c.two_at-2.ensures.0 j))
-    ∙ edge_high c.args.s.now (λ i. (c.type_inv.s i).fits) c.args.at
+returns c = (λ j. nat_lt 0 (c.read.ensures j + c.read-2.ensures j)) ∙ edge_high c.args.s.now (λ i. (c.type_inv.s i).fits) c.args.at

@@ -1,0 +1,75 @@
+// What is known of a program once its first rules have passed, and the questions that the later ones ask of its words and edges.
+ghost use Rattle.std.specs.Prelude.{◌≡◌, ◌<◌, ◌≤◌, ◌&&◌};
+ghost use Rattle.isa.specs.Words.{known};
+ghost use Rattle.isa.specs.Instructions.{instr_at, is_kind};
+ghost use Rattle.graph.specs.Claim.{edge_count, jump_of, target_of};
+ghost use Rattle.graph.specs.Passes.{Sized, Is};
+ghost use Rattle.checker.specs.Passes.{Claimed, Run};
+
+use crate::edges::{jump_number, target_number};
+use isa::{Kind, is_a};
+
+// A memory with n words of code at its front: 6 has passed.
+#[derive(Clone, Copy)]
+pub(crate) struct Code<'a> {
+    pub(crate) memory: &'a [u64],
+    pub(crate) n: usize,
+    pub(crate) ghost sized: { Sized memory.now n },
+}
+
+impl Code<'_> {
+    // Whether a word of this kind stands at a.
+    #[inline(always)]
+    pub(crate) fn is_at(&self, kind: Kind, a: usize) -> bool
+        requires { a < self.now.n }
+        ensures { result ≡ (known kind && is_kind kind (instr_at self.now.memory.now a)) }
+    {
+        is_a(kind, self.memory[a])
+    }
+}
+
+// The same with edges: 7, 8 and 18 have passed. Edges that rise stand side by side where they start at one jump.
+#[derive(Clone, Copy)]
+pub(crate) struct Claim<'a> {
+    pub(crate) code: Code<'a>,
+    pub(crate) edges: &'a [u16],
+    pub(crate) ghost claimed: { Claimed code.memory.now code.n edges.now },
+}
+
+impl Claim<'_> {
+    // How many edges there are.
+    pub(crate) fn count(&self) -> usize
+        ensures { result ≡ edge_count self.now.edges.now }
+    {
+        self.edges.len() / 2
+    }
+
+    // The two ends of an edge.
+    pub(crate) fn jump(&self, k: usize) -> usize
+        requires { k < edge_count self.now.edges.now }
+        ensures { Is result (jump_of self.now.edges.now k) self.now.code.n }
+    {
+        jump_number(self.edges, k)
+    }
+
+    pub(crate) fn target(&self, k: usize) -> usize
+        requires { k < edge_count self.now.edges.now }
+        ensures { Is result (target_of self.now.edges.now k) self.now.code.n }
+    {
+        target_number(self.edges, k)
+    }
+
+    // Where the edges from k on that start at j end: the first that starts elsewhere, or their number.
+    #[tactic(auto, using(crate::proofs::Runs::stretch_none, crate::proofs::Runs::stretch_more))]
+    pub(crate) fn run_end(&self, k: usize, j: usize) -> usize
+        requires { k ≤ edge_count self.now.edges.now }
+        ensures { Run self.now.edges.now j k result }
+    {
+        for end in k..self.count() {
+            if jump_number(self.edges, end) != j {
+                return end;
+            }
+        }
+        self.count()
+    }
+}

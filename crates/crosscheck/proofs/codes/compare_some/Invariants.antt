@@ -1,6 +1,0 @@
--- `crosscheck::codes::compare_some` is safe and ends. The measure is `turns - k`, and nothing has to hold from turn to turn.
-use Rattle.std.proofs.Common.{◌-◌}
-use Rattle.crosscheck.proofs.codes.compare_some.Given as goal
-
-abbrev pub decreases-loop-k : goal.decreases-loop-k
-decreases-loop-k l = l.turns - l.k

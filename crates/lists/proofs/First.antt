@@ -1,0 +1,72 @@
+-- Laws of the first number that passes a test: what tells it, what it tells, and how chains over slices and ranges answer it.
+use Rattle.std.proofs.Common.{◌≡◌, refl, sym, ◌∙◌, ap, ℕ, ◌+◌, ◌<◌, ◌≤◌, Bool, true, false, cond, List, [], ◌∷◌, ◌++◌, length, take, get_or, arith, MatchOption}
+use Prim.Native.Nat.{zero, suc}
+use Rattle.std.specs.Prelude.{Option, Some, None, position, ltb, eqb}
+use Rattle.std.specs.List.{position_or_len}
+use Rattle.std.proofs.lemmas.Bool.{ltb-true, ltb-false, lt-ltb, le-ltb}
+use Rattle.std.proofs.lemmas.List.{length-take-le}
+use Rattle.std.proofs.Math.Seq.{take-suc}
+use Rattle.std.proofs.lemmas.List.Folds.{position_or_len_push}
+use borrow.Author.Tests.{eq-eqb, ne_eqb}
+use Rattle.lists.specs.Search.{lowest, first}
+use Rattle.lists.proofs.Bools.{clash}
+use Rattle.lists.proofs.Search.{Clean, lowest_is, lowest_at, lowest_none}
+
+-- a search that stops at i, and one that passes every number
+pub first_at : (f : ℕ → Bool) (n i : ℕ) → i < n → Clean f i → f i ≡ true → Some i ≡ first f n
+first_at f n i l c t = let e = lowest_at f n i l c t in rw (← e, lt-ltb i n l)
+
+pub first_none : (f : ℕ → Bool) (n : ℕ) → Clean f n → None ≡ first f n
+first_none f n c = let e = lowest_none f n n refl c in rw (← e, le-ltb n n (omega arith))
+
+-- what its answer r tells
+pub first_clean : (f : ℕ → Bool) (n : ℕ) → None ≡ first f n → Clean f n
+first_clean f n = go (ltb (lowest f n) n) refl
+  where
+    go : (b : Bool) → ltb (lowest f n) n ≡ b → None ≡ cond b (Some (lowest f n)) None → Clean f n
+    go true q e = clash (cc)
+    go false q e = λ k l. let z = ltb-false _ _ q in (lowest_is f n).clean k (omega arith)
+
+-- its place is below n, is the lowest, and passes
+pub first_found : (f : ℕ → Bool) (n i : ℕ) → Some i ≡ first f n → (i < n) × (i ≡ lowest f n) × (f i ≡ true)
+first_found f n i = go (ltb (lowest f n) n) refl
+  where
+    go : (b : Bool) → ltb (lowest f n) n ≡ b → Some i ≡ cond b (Some (lowest f n)) None → (i < n) × (i ≡ lowest f n) × (f i ≡ true)
+    go true q e =
+        let s : i ≡ lowest f n = cc in
+        rw s (ltb-true _ _ q, refl, (lowest_is f n).found (ltb-true _ _ q))
+    go false q e = clash (cc)
+
+-- the place of the first of n elements that passes
+positions : (p : ℕ → Bool) (xs : List ℕ) (n : ℕ) → n ≤ length xs → position_or_len p (take n xs) ≡ lowest (λ a. p (get_or xs a 0)) n
+unfolding lowest
+positions p xs zero h = refl
+positions p xs (suc n) h =
+    let e = positions p xs n (omega arith) in
+    let l = length-take-le n xs (omega arith) in
+    let w = (lowest_is (λ a. p (get_or xs a 0)) n).within in
+    ap (position_or_len p) (take-suc xs n 0 (omega arith))
+    ∙ position_or_len_push p (take n xs) (get_or xs n 0)
+    ∙ rw (e, l) (go (ltb (lowest (λ a. p (get_or xs a 0)) n) n) refl (p (get_or xs n 0)) w)
+  where
+    go : (b : Bool) → ltb (lowest (λ a. p (get_or xs a 0)) n) n ≡ b → (t : Bool) → lowest (λ a. p (get_or xs a 0)) n ≤ n
+        → cond (eqb (lowest (λ a. p (get_or xs a 0)) n) n) (n + cond t 0 1) (lowest (λ a. p (get_or xs a 0)) n)
+        ≡ cond (ltb (lowest (λ a. p (get_or xs a 0)) n) n) (lowest (λ a. p (get_or xs a 0)) n) (cond t n (suc n))
+    go true q t w =
+        let l = ltb-true _ _ q in rw (q, ne_eqb (lowest (λ a. p (get_or xs a 0)) n) n (λ e. omega (arith, l, e)))
+    go false q true w =
+        let s : lowest (λ a. p (get_or xs a 0)) n ≡ n = let l = ltb-false _ _ q in omega (arith, l, w) in
+        rw (q, eq-eqb _ _ s) (omega arith)
+    go false q false w =
+        let s : lowest (λ a. p (get_or xs a 0)) n ≡ n = let l = ltb-false _ _ q in omega (arith, l, w) in
+        rw (q, eq-eqb _ _ s) (omega arith)
+
+pub first_position : (p : ℕ → Bool) (xs : List ℕ) (n : ℕ) → n ≤ length xs → position p (take n xs) ≡ first (λ a. p (get_or xs a 0)) n
+first_position p xs n h = rw (positions p xs n h, length-take-le n xs h)
+
+-- what a search of the numbers from 0 to n answers (`first_from_Range`)
+pub first_told : (f : ℕ → Bool) (n : ℕ) (r : Option ℕ)
+    → MatchOption r ((k : ℕ) → 0 ≤ k → k < n → f k ≡ false) (λ i. (0 ≤ i) × (i < n) × (f i ≡ true) × ((k : ℕ) → 0 ≤ k → k < i → f k ≡ false))
+    → r ≡ first f n
+first_told f n None h = first_none f n (λ k l. h k (omega arith) l)
+first_told f n (Some i) h = first_at f n i h.1 (λ k l. h.3 k (omega arith) l) h.2
