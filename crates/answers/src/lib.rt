@@ -33,7 +33,8 @@ pub enum Refusal {
     ResultTooLong,
 }
 
-// Where a fault is: an edge, counted from 0, an address, or no place at all.
+// Where a fault is: an edge, counted from 0, an address, or no place at all. `Nowhere` is a case and no Option: nobody asks whether there is a
+// place, and C gets two numbers for each case alike.
 #[derive(Clone, Copy, Debug, PartialEq, Eq)]
 pub enum Place {
     Edge(usize),

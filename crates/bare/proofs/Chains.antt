@@ -18,7 +18,6 @@ use Rattle.answers.specs.declared.Refusal.{Refusal}
 use Rattle.answers.specs.declared.Place.{Place}
 use Rattle.answers.specs.declared.Fault.{Fault}
 use Rattle.answers.specs.Faults.{fault, Verdict, refusal_at}
-use Rattle.isa.specs.declared.Instr.{Instr}
 use Rattle.isa.specs.Words.{decode_of}
 use Rattle.isa.specs.Instructions.{branch_target}
 use Rattle.checker.specs.Verdicts.{Rule, rule_per_address, first_broken}

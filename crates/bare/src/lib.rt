@@ -14,7 +14,7 @@ use isa::{Kind, kind_of_word};
 
 // Whether the n words at the front of memory, with these edges, may be rewritten, whatever the length of what comes out; and if not, the
 // number and the place of the first fault: 6, 7, 8, 18, 9 and 10 as the checkers answer them, then 20 and 21.
-#[tactic(auto, using(crate::proofs::Claimed::code_within, crate::proofs::Claimed::claim_kept, crate::proofs::Claimed::claim_broken))]
+#[tactic(auto, using(crate::proofs::Claimed::claim_kept, crate::proofs::Claimed::claim_broken))]
 pub fn check_bare(memory: &[u64], n: usize, edges: &[u16]) -> Verdict
     ensures { result ≡ words_verdict_of memory.now n edges.now }
 {
@@ -87,7 +87,6 @@ fn registers_in(kind: Kind) -> u8
 }
 
 // The first that breaks 20, and if there is none, the first that breaks 21.
-#[tactic(auto, using(crate::proofs::Chains::words_broken, crate::proofs::Chains::words_kept))]
 fn find_wrong(code: &[u64]) -> Verdict
     ensures { result ≡ first_broken (word_rules code.now (length code.now) []) }
 {

@@ -53,7 +53,7 @@ bytes_in w memory n edges = parcel_of w (take n memory) edges (drop n memory)
 abbrev pub write_call : ℕ → List ℕ → ℕ → List ℕ → Bool → Written
 write_call w memory n edges short = written_of (call_shaped (length memory) n (length edges)) edges short (bytes_in w memory n edges)
 
--- the place for the count is a lent place as the parcel's is,
+-- 5: the place for the count is a lent place as the parcel's is
 abbrev pub write_short : List ℕ → ℕ → List ℕ → List ℕ → List ℕ → Bool
 write_short memory n edges parcel count = shorter count 1 || shorter parcel (length (bytes_in 2 memory n edges))
 
@@ -77,7 +77,7 @@ pub record WriteCall (memory : List ℕ) (n : ℕ) (edges parcel count : List �
   pub answer : r ≡ written_parcel_number (write_call 2 memory n edges (write_short memory n edges parcel count))
   pub leaves : WriteLeaves (write_call 2 memory n edges (write_short memory n edges parcel count)) memory n edges parcel count parcel' count'
 
--- and so is the one for the place of a refusal
+-- 5: the places for the size and for the place of a refusal are lent places as that for the bytes is
 abbrev pub put_short : List ℕ → List ℕ → List ℕ → List ℕ → Bool
 put_short bytes parcel count place = (shorter place 2 || shorter count 1) || shorter parcel (length bytes)
 

@@ -2,13 +2,13 @@
 #![tactic(auto)]
 
 ghost use Rattle.std.specs.Prelude.{◌≡◌, cond, ◌||◌, ◌++◌, drop, length, ltb, MatchResult};
-ghost use Rattle.capi.specs.Words.{DecodeCall, encode_call};
+ghost use Rattle.capi.specs.Words.{DecodeCall, encode_call, too_short};
 ghost use Rattle.capi.specs.States.{technique_of, StepCall, RunCall, WriteDataCall, WriteRegisterCall};
 ghost use Rattle.capi.specs.Inside.{Ordered, RunNumber};
 ghost use Rattle.capi.specs.Checks.{answer_number, answer_place, place_numbers, place_after, AnswerPut, CheckCall};
 ghost use Rattle.capi.specs.Parcels.{ReadPut, ReadCall, WriteCall, WritePlacedCall, WrittenPut};
 
-use answers::{Fault, Place};
+use answers::{Fault, Place, Refusal};
 use isa::Technique;
 use parcel::{Counts, InBytes};
 use rising::EdgeNumber;
@@ -17,7 +17,7 @@ pub fn pg_decode(word: u64, place: &mut [u32]) -> u32
     ensures { DecodeCall word place.old result place.new }
 {
     if place.len() < 5 {
-        return 5;
+        return too_short();
     }
     let f = isa::fields_of_word(word);
     let opcode = u32::from(u8::from(f.kind));
@@ -53,7 +53,7 @@ pub fn pg_run(
     ensures { RunCall technique n limit state.old memory.old count.old result state.new memory.new count.new }
 {
     if state.len() < 33 || count.len() < 1 {
-        return 5;
+        return too_short();
     }
     let ran = run_number(order_of(technique, limit), state, memory, n);
     count[0] = ran / 0x1_0000_0000;
@@ -78,7 +78,7 @@ pub fn pg_check(technique: u8, memory: &[u64], n: usize, edges: &[u16], place: &
     ensures { CheckCall technique memory.now n edges.now place.old result place.new }
 {
     if place.len() < 2 {
-        return 5;
+        return too_short();
     }
     put_answer(
         place,
@@ -134,6 +134,7 @@ pub fn read_lent<E: EdgeNumber + InBytes>(
 ) -> u32
     ensures { ReadCall E.WIDTH parcel.now memory.old (E.numbers edges.old) counts.old result memory.new (E.numbers edges.new) counts.new }
 {
+    // No place of a refusal is put here, so none can be too short: 2 is enough.
     let room = room_of(counts.len(), 3, 2, memory.len());
     let read = parcel::read_parcel(parcel, &mut memory[..room], edges);
     put_read(counts, read)
@@ -154,6 +155,13 @@ pub fn write_lent<E: EdgeNumber + InBytes>(
     let room = room_of(count.len(), 1, place.len(), parcel.len());
     let written = parcel::write_parcel(memory, n, edges, &mut parcel[..room]);
     put_written(written, count, place)
+}
+
+// The number of every call whose place is too short.
+pub fn too_short() -> u32
+    ensures { result ≡ too_short }
+{
+    u32::from(u8::from(Refusal::PlaceTooShort))
 }
 
 // How much of a lent place may be used: none of it where there is no room for so many counts or for the place of a refusal, so that 5

@@ -24,6 +24,8 @@ use Rattle.graph.proofs.Edges.{edge_more, edge_at, edge_of}
 use Rattle.rising.specs.Rising.{Above, Rising}
 use Rattle.rising.proofs.Sizes.{size_in, size_more}
 use Rattle.checker.specs.Passes.{Run, EdgesOf}
+use Rattle.std.specs.Prelude.{Option, Some, None}
+use Rattle.std.specs.Option.{MatchOption, unwrap_or}
 
 -- the first k edges are those that start below a
 pub record Cut (edges : List ℕ) (a k : ℕ) : Type 0 where
@@ -48,6 +50,26 @@ stretch_more P k m h p i l q = go (ℕ_discrete i m)
 -- a run by the jump of edge k; that edge is in it
 pub run_at : (edges : List ℕ) {j : ℕ} (k end : ℕ) → j ≡ jump_of edges k → Run edges j k end → Run edges (jump_of edges k) k end
 run_at edges k end e run = subst (λ (x : ℕ). Run edges x k end) e run
+
+-- a search from k on for an edge that starts elsewhere
+pub run_told : (edges : List ℕ) (j k m r : ℕ) (o : Option ℕ) → k ≤ m → m ≡ edge_count edges → r ≡ unwrap_or o m
+    → MatchOption o ((i : ℕ) → k ≤ i → i < m → jump_of edges i ≡ j)
+    (λ i. (k ≤ i) × (i < m) × (jump_of edges i ≢ j) × ((x : ℕ) → k ≤ x → x < i → jump_of edges x ≡ j))
+    → Run edges j k r
+run_told edges j k m r None l e z h =
+    record {
+      from = omega arith;
+      upto = omega arith;
+      mine = λ i p q. h i p (omega arith);
+      next = λ p. absurd (omega arith);
+    }
+run_told edges j k m r (Some i) l e z h =
+    record {
+      from = omega (arith, h.0);
+      upto = omega (arith, h.1);
+      mine = λ x p q. h.3 x p (omega arith);
+      next = λ p q. h.2 (ap (jump_of edges) (sym z) ∙ q);
+    }
 
 pub run_some : (edges : List ℕ) (k end : ℕ) → Run edges (jump_of edges k) k end → k < edge_count edges → k < end
 run_some edges k end run h =

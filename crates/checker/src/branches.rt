@@ -27,6 +27,7 @@ fn is_wrong_branch(technique: Technique, claim: &Claim<'_>, a: usize) -> bool
     leads_wrong(technique, &claim.code, a)
 }
 
+// An address below n is asked at each call, as an index below a length is: no struct can hold it.
 fn leads_wrong(technique: Technique, code: &Code<'_>, a: usize) -> bool
     requires { a < code.now.n }
     ensures { result ≡ branch_bad technique code.now.memory.now code.now.n (instr_at code.now.memory.now a) }
@@ -57,15 +58,9 @@ fn is_inside_guard(technique: Technique, code: &Code<'_>, w: usize) -> bool
 
 // Whether a word of this kind stands in code from w on, before the last of len words.
 #[inline(always)]
-#[tactic(auto, using(lists::proofs::Search::clean_more, guards::proofs::Endings::near_at, guards::proofs::Endings::near_before, guards::proofs::Endings::near_not, guards::proofs::Endings::near_hit, guards::proofs::Endings::near_none))]
 fn ends_near(code: &Code<'_>, kind: Kind, len: usize, w: usize) -> bool
     requires { (1 ≤ len) × (len ≤ 10) × (w ≤ code.now.n) × (known kind ≡ true) }
     ensures { result ≡ ending_near (is_kind kind) code.now.memory.now code.now.n len w }
 {
-    for a in w..code.n.min(w + len - 1) {
-        if code.is_at(kind, a) {
-            return true;
-        }
-    }
-    false
+    (w..code.n.min(w + len - 1)).any(|a| code.is_at(kind, a))
 }

@@ -60,16 +60,13 @@ impl Claim<'_> {
     }
 
     // Where the edges from k on that start at j end: the first that starts elsewhere, or their number.
-    #[tactic(auto, using(crate::proofs::Runs::stretch_none, crate::proofs::Runs::stretch_more))]
     pub(crate) fn run_end(&self, k: usize, j: usize) -> usize
         requires { k ≤ edge_count self.now.edges.now }
         ensures { Run self.now.edges.now j k result }
     {
-        for end in k..self.count() {
-            if jump_number(self.edges, end) != j {
-                return end;
-            }
-        }
-        self.count()
+        let m = self.count();
+        (k..m)
+            .find(|end| jump_number(self.edges, *end) != j)
+            .unwrap_or(m)
     }
 }

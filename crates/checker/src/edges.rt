@@ -7,6 +7,7 @@ ghost use Rattle.checker.specs.Passes.{found};
 use crate::claim::{Claim, Code};
 use isa::Kind;
 
+// An index below a length is asked at each call, here and below: no struct can hold it.
 pub(crate) fn jump_number(edges: &[u16], k: usize) -> usize
     requires { k < edge_count edges.now }
     ensures { result ≡ jump_of edges.now k }

@@ -27,6 +27,7 @@ use rising::first_not_rising;
 use sets::first_overlap;
 use unguarded::{first_bare_jump, first_bare_store};
 
+// Memory, n and edges stay parameters, here and in the crates above: of a struct each clause would say `program.entry.memory.now`.
 // Whether the n words of code at the front of memory, with these edges, keep the technique's conditions, and if not, the
 // number and the place of the first fault.
 #[tactic(auto, using(lists::proofs::Bools::and_left, lists::proofs::Bools::and_right, lists::proofs::Tables::table_new, crate::proofs::Rules::broken_once, crate::proofs::Rules::kept_once, crate::proofs::Rules::sized, crate::proofs::Rules::few_edges), unfolding(crate::specs::Verdicts::verdict_of))]
@@ -72,6 +73,7 @@ fn check_edges(code: &Code<'_>, edges: &[u16], own: &mut [u16; 2048]) -> Verdict
     check_sets(&Claim { code: *code, edges }, own)
 }
 
+// That `own` is nobody's yet stays a clause of three functions: it holds until the sets are put in, so no type can carry it.
 // Rules 9 and 10.
 #[tactic(auto, using(crate::proofs::Rules::broken_by, crate::proofs::Rules::kept_by, crate::proofs::Rules::last_by))]
 fn check_sets(claim: &Claim<'_>, own: &mut [u16; 2048]) -> Verdict
@@ -85,6 +87,7 @@ fn check_sets(claim: &Claim<'_>, own: &mut [u16; 2048]) -> Verdict
     refuse_at(Refusal::TargetSetsOverlap, b.map(Place::Address))
 }
 
+// What is known of the jumps and of `own` by now stays a clause: a struct for it would only hand on the claim and the array.
 // Rules 11 and 12, and those after them.
 #[tactic(auto, using(crate::proofs::Rules::broken_once, crate::proofs::Rules::kept_once, crate::proofs::Rules::broken_by, crate::proofs::Rules::kept_by))]
 fn check_labels(technique: Technique, claim: &Claim<'_>, own: &[u16; 2048]) -> Verdict

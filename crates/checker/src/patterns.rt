@@ -1,4 +1,4 @@
-// Guard sequences as data, and the one function that looks for them.
+// Guard sequences as data, and the search for them in memory.
 ghost use Rattle.std.specs.Prelude.{◌≡◌, ◌+◌, ◌-◌, ◌*◌, ◌/◌, ◌%◌, ◌^◌, ◌<◌, ◌≤◌, ◌&&◌, ltb, eqb, length};
 ghost use Rattle.isa.specs.Words.{decode_of};
 ghost use Rattle.isa.specs.declared.Technique.{Technique};
@@ -9,7 +9,8 @@ use guards::Free;
 use isa::{Instr, Technique, encode};
 
 // A sequence as code has it: `len` words, one of them given apart with its place where an ID is in it, and how much of each is free.
-// The words stay an array of 10 beside `free`, since the rewriter puts the same array (`guards::jump_words`) into code.
+// The words stay an array of 10 beside `free`, since the rewriter puts the same array (`guards::jump_words`) into code; `len` stands
+// beside them, since a sequence is the first 6 of the ten words, or all 10.
 #[derive(Clone, Copy)]
 pub(crate) struct Sequence<'a> {
     pub(crate) words: &'a [u64; 10],

@@ -54,7 +54,7 @@ converting_edge w v s at edges {to₀} {start} {to} {to'} {k} inv l q =
 
 -- ---- one number
 
-two_bytes : (s : List ℕ) (at : ℕ) → number_of 2 (drop at s) ≡ get_or s at 0 + get_or s (at + 1) 0 * 256
+pub two_bytes : (s : List ℕ) (at : ℕ) → number_of 2 (drop at s) ≡ get_or s at 0 + get_or s (at + 1) 0 * 256
 two_bytes s at = sym (number_halves 1 s at (number_byte s at) (number_byte s (at + 1)))
 
 four_bytes : (s : List ℕ) (at : ℕ) → number_of 4 (drop at s) ≡ number_of 2 (drop at s) + number_of 2 (drop (at + 2) s) * 65536

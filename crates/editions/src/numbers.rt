@@ -1,11 +1,11 @@
 // Numbers in bytes, low byte first, put as numbers of another width.
+// `s`, `at`, `to` and `start` go together through three functions: a part of a `&mut` slice that is lent on would make a contract speak of
+// two places, and as parameters each clause speaks of the whole.
 ghost use Rattle.std.specs.Prelude.{◌≡◌, ◌||◌, [], ◌∷◌, ◌+◌, ◌*◌, ◌≤◌, leb, length, take, drop};
 ghost use Rattle.std.proofs.lemmas.List.Edits.{sets};
 ghost use Rattle.lists.specs.Search.{first};
 ghost use Rattle.parcel.specs.Bytes.{number_of, numbers_of, all_bytes_of};
 ghost use Rattle.editions.specs.Converters.{is_wide};
-
-use parcel::InBytes;
 
 // k bytes from at, as they are.
 pub(crate) fn copy(s: &[u8], at: usize, k: usize, to: &mut [u8], start: usize)
@@ -69,7 +69,9 @@ fn has_high_half(s: &[u8], at: usize) -> bool
     requires { at + 8 ≤ length s.now }
     ensures { result ≡ (leb 65536 (number_of 4 (drop at s.now)) || leb 65536 (number_of 4 (drop (at + 4) s.now))) }
 {
-    0 < u16::read(s, at + 2) as u32 + u16::read(s, at + 6) as u32
+    let jump = u16::from_le_bytes([s[at + 2], s[at + 3]]);
+    let target = u16::from_le_bytes([s[at + 6], s[at + 7]]);
+    0 < u32::from(jump) + u32::from(target)
 }
 
 fn put_four(s: &mut [u8], at: usize, a: u8, b: u8, c: u8, d: u8)

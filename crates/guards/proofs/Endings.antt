@@ -1,16 +1,19 @@
 -- Rule 15: where rules 13 and 14 are kept, a guard sequence ends exactly where its jmp or st stands.
 use Prim.Native.Nat.{ℕ, suc, ◌+◌, ◌-◌, ◌<◌, ◌≤◌}
-use mathlib.Core.Path.{◌≡◌, refl, sym, ap, subst}
-use mathlib.Core.Bool.{Bool, true, false, ◌&&◌, and-false}
+use mathlib.Core.Path.{◌≡◌, refl, sym, ap, subst, ◌∙◌}
+use mathlib.Core.Bool.{Bool, true, ◌&&◌}
 use mathlib.Core.List.{List, [], ◌∷◌}
 use Rattle.std.specs.Prelude.{Option, None, Some}
+use Rattle.std.specs.List.{list_any, range_with_len}
+use Rattle.std.proofs.lemmas.List.Folds.{Any-from_list_any, list_any_at}
+use Rattle.std.proofs.lemmas.List.FromFn.{length-range_with_len, get_or-range_with_len}
 use native.Mathlib.Omega.{arith}
-use borrow.Author.Tests.{leb-true, ltb-true, ltb-false, le-leb, lt-leb, le-ltb, lt-ltb, not-false}
+use borrow.Author.Tests.{leb-true, ltb-true, le-leb, lt-ltb, not-false}
 use lib.Dec.{ltb, leb}
-use lib.ListN.{length}
+use lib.ListN.{length, get_or}
 use Rattle.lists.specs.Search.{any}
 use Rattle.lists.proofs.Bools.{and_left, and_right, and_rest, same_bool}
-use Rattle.lists.proofs.Search.{Clean, any_ext, any_hit, any_clean}
+use Rattle.lists.proofs.Search.{Clean, any_ext, any_hit, any_witness}
 use Rattle.isa.specs.declared.Instr.{Instr}
 use Rattle.isa.specs.declared.Technique.{Technique}
 use Rattle.isa.specs.Instructions.{instr_at, is_jump, is_store, branch_target}
@@ -100,22 +103,36 @@ branch_wrong_lem t memory n edges i h = go (branch_target i)
 
 -- a search for the last word of a sequence, from w on
 module _ (kind : Instr → Bool) (memory : List ℕ) (len w : ℕ) where
-  abbrev pub near_at : ℕ → Bool
+  abbrev near_at : ℕ → Bool
   near_at a = kind (instr_at memory a) && (leb w a && ltb (a + 1) (w + len))
 
-  pub near_before : Clean near_at w
-  near_before a l = rw (lt-leb w a l) (and-false (kind (instr_at memory a)))
-
-  pub near_not : (a : ℕ) → kind (instr_at memory a) ≡ false → near_at a ≡ false
-  near_not a e = rw e
-
-  pub near_hit : (n a : ℕ) → a < n → w ≤ a → a + 1 < w + len → kind (instr_at memory a) ≡ true → true ≡ any near_at n
+  near_hit : (n a : ℕ) → a < n → w ≤ a → a + 1 < w + len → kind (instr_at memory a) ≡ true → true ≡ any near_at n
   near_hit n a l lo hi e = sym (any_hit near_at n a l (rw (e, le-leb w a lo, lt-ltb (a + 1) (w + len) hi)))
 
-  pub near_none : (n a : ℕ) → Clean near_at a → ((x : ℕ) → x < n → a ≤ x → w + len ≤ x + 1) → false ≡ any near_at n
-  near_none n a c far = sym (any_clean near_at n (λ x l. go x l (ltb x a) refl))
+  -- the chain over the numbers from w up to `end`
+  pub near_listed : (f : ℕ → Bool) (n end : ℕ) → ((a : ℕ) → f a ≡ kind (instr_at memory a)) → end ≤ n → end < w + len
+      → ((x : ℕ) → x < n → end ≤ x → w + len ≤ x + 1) → list_any f (range_with_len w (end - w)) ≡ any near_at n
+  near_listed f n end same low high far = same_bool _ _ out back
     where
-      go : (x : ℕ) → x < n → (b : Bool) → ltb x a ≡ b → near_at x ≡ false
-      go x l true e = c x (ltb-true x a e)
-      go x l false e =
-          rw (le-ltb (x + 1) (w + len) (far x l (ltb-false x a e)), and-false (leb w x)) (and-false (kind (instr_at memory x)))
+      out : list_any f (range_with_len w (end - w)) ≡ true → any near_at n ≡ true
+      out e =
+          let v = Any-from_list_any f (range_with_len w (end - w)) e in
+          let l : v.0 < end - w = omega (arith, v.2, length-range_with_len w (end - w)) in
+          let place : v.1 ≡ w + v.0 = sym v.3 ∙ get_or-range_with_len w (end - w) v.0 v.1 l in
+          sym (near_hit n (w + v.0) (omega arith) (omega arith) (omega arith)
+          (sym (same (w + v.0)) ∙ subst (λ (x : ℕ). f x ≡ true) place v.4))
+
+      back : any near_at n ≡ true → list_any f (range_with_len w (end - w)) ≡ true
+      back e =
+          let v = any_witness near_at n e in
+          let k = v.0 in
+          let both = and_right (kind (instr_at memory k)) (leb w k && ltb (k + 1) (w + len)) v.2 in
+          let lo : w ≤ k = leb-true w k (and_left (leb w k) (ltb (k + 1) (w + len)) both) in
+          let hi : k + 1 < w + len = ltb-true (k + 1) (w + len) (and_right (leb w k) (ltb (k + 1) (w + len)) both) in
+          let past : end ≤ k → ⊥ = λ q. omega (arith, far k v.1 q, hi) in
+          let here : k - w < end - w = omega (arith, past, lo) in
+          let place : get_or (range_with_len w (end - w)) (k - w) 0 ≡ k =
+          get_or-range_with_len w (end - w) (k - w) 0 here ∙ omega (arith, lo) in
+          list_any_at f (range_with_len w (end - w)) (k - w) 0 (omega (arith, here, length-range_with_len w (end - w)))
+          (subst (λ (x : ℕ). f x ≡ true) (sym place)
+          (same k ∙ and_left (kind (instr_at memory k)) (leb w k && ltb (k + 1) (w + len)) v.2))

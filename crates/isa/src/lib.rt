@@ -318,7 +318,7 @@ fn clear_of(kind: Kind) -> u64
 fn is_known(kind: Kind) -> bool
     ensures { result ≡ known kind }
 {
-    255 != u8::from(kind)
+    !matches!(kind, Kind::Unknown)
 }
 
 fn names(a: bool, b: bool, c: bool, w: bool) -> Named

@@ -30,8 +30,3 @@ module _ (old mid : List ℕ) (x : ℕ) (l : 10 ≤ x) (h : x < 2 ^ 64) (e : mid
 pub puts_front : {text before new : List ℕ} {k : ℕ} → new ≡ text → length text ≡ k → k ≤ length before → Puts text before 0 k (new ++ drop k before)
 puts_front {text} {before} {new} {k} e l h =
     record { ends = omega (arith, l); bytes = rw (e, ← l) (sym (over_front text before (omega (arith, l, h)))) }
-
--- the contract of `verdict_line` from what the line was made of
-pub puts_line : (parcel before : List ℕ) (size : ℕ) (after : List ℕ) (answer : Result Counts Fault) → answer ≡ answer_of (read_of 2 parcel)
-    → Puts (line_of answer) before 0 size after → size ≤ 80 → PutsLine parcel before size after
-puts_line parcel before size after answer e p f = record { puts = rw (← e) p; fits = f }

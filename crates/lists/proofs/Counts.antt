@@ -18,10 +18,6 @@ bit_eq true false e = absurd (omega arith)
 bit_eq false true e = absurd (omega arith)
 bit_eq false false e = refl
 
-pub count_none : (f : ℕ → Bool) → 0 ≡ count f 0
-unfolding count
-count_none f = refl
-
 pub count_more : (f : ℕ → Bool) (k : ℕ) → count f (k + 1) ≡ bit (f k) + count f k
 unfolding count
 count_more f k = rw add-one

@@ -1,5 +1,5 @@
 -- Laws of the first number that passes a test: what tells it, what it tells, and how chains over slices and ranges answer it.
-use Rattle.std.proofs.Common.{◌≡◌, refl, sym, ◌∙◌, ap, ℕ, ◌+◌, ◌<◌, ◌≤◌, Bool, true, false, cond, List, [], ◌∷◌, ◌++◌, length, take, get_or, arith, MatchOption}
+use Rattle.std.proofs.Common.{◌≡◌, refl, sym, ◌∙◌, ap, ℕ, ◌+◌, ◌<◌, ◌≤◌, Bool, true, false, cond, List, [], ◌∷◌, ◌++◌, length, take, get_or, arith}
 use Prim.Native.Nat.{zero, suc}
 use Rattle.std.specs.Prelude.{Option, Some, None, position, ltb, eqb}
 use Rattle.std.specs.List.{position_or_len}
@@ -63,10 +63,3 @@ positions p xs (suc n) h =
 
 pub first_position : (p : ℕ → Bool) (xs : List ℕ) (n : ℕ) → n ≤ length xs → position p (take n xs) ≡ first (λ a. p (get_or xs a 0)) n
 first_position p xs n h = rw (positions p xs n h, length-take-le n xs h)
-
--- what a search of the numbers from 0 to n answers (`first_from_Range`)
-pub first_told : (f : ℕ → Bool) (n : ℕ) (r : Option ℕ)
-    → MatchOption r ((k : ℕ) → 0 ≤ k → k < n → f k ≡ false) (λ i. (0 ≤ i) × (i < n) × (f i ≡ true) × ((k : ℕ) → 0 ≤ k → k < i → f k ≡ false))
-    → r ≡ first f n
-first_told f n None h = first_none f n (λ k l. h k (omega arith) l)
-first_told f n (Some i) h = first_at f n i h.1 (λ k l. h.3 k (omega arith) l) h.2

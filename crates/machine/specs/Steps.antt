@@ -67,12 +67,13 @@ effect_of t n m s (Instr.Ld rd rs w) = load_of m rd (address_of (reg_of s rs) w)
 effect_of t n m s (Instr.St rd rs w) = store_of t n m (address_of (reg_of s rd) w) (reg_of s rs) (s.pc + 1)
 effect_of t n m s Instr.Illegal = Err Stop.Illegal
 
--- stop 4, tested last
+-- the pc that an effect goes on to
 abbrev pub next_in : Effect → ℕ
 next_in (Effect.Go next) = next
 next_in (Effect.SetRegister rd value next) = next
 next_in (Effect.PutWord address value next) = next
 
+-- stop 4, tested last
 unfoldable pub settle_of : Technique → ℕ → Result Effect Stop → Result Effect Stop
 settle_of t n (Ok effect) = cond (next_allowed t n (next_in effect)) (Ok effect) (Err Stop.Next)
 settle_of t n (Err stop) = Err stop

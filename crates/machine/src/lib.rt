@@ -93,6 +93,7 @@ pub struct Ended {
     pub count: u16,
 }
 
+// The parameters of these three are those of the calls from C, which lend them apart.
 // One step: a run with limit 1. The memory is n words of code and then the data.
 #[tactic(auto, using(crate::proofs::OneStep::one_step, crate::proofs::Theorems::steps))]
 pub fn step(technique: Technique, state: State, memory: &mut [u64], n: usize) -> Stepped

@@ -11,7 +11,7 @@ ghost use Rattle.owner.specs.Reports.{figure_numbers, total_numbers, totals_in, 
 ghost use Rattle.owner.specs.Inside.{AddedIn};
 
 use answers::{Fault, Place};
-use capi::{put, put_answer, put_place, technique_of};
+use capi::{put, put_answer, put_place, technique_of, too_short};
 use report::{Figures, Freedom};
 use totals::{Added, Largest, Totals};
 
@@ -26,7 +26,7 @@ pub fn pg_report(
     ensures { ReportCall (report_of (technique_of technique) memory.now n edges.now) figures.old place.old result figures.new place.new }
 {
     if are_short(figures.len(), 14, place.len()) {
-        return 5;
+        return too_short();
     }
     let made = report::report(technique_of(technique), memory, n, edges);
     answer_report(made, figures, place)
@@ -36,7 +36,7 @@ pub fn pg_report_parcel(technique: u8, parcel: &[u8], figures: &mut [u64], place
     ensures { ReportCall (parcel_report (technique_of technique) parcel.now) figures.old place.old result figures.new place.new }
 {
     if are_short(figures.len(), 14, place.len()) {
-        return 5;
+        return too_short();
     }
     let made = report::report_parcel(technique_of(technique), parcel);
     answer_report(made, figures, place)
@@ -53,7 +53,7 @@ pub fn pg_add_report(
     ensures { AddCall (report_of (technique_of technique) memory.now n edges.now) sums.old place.old result sums.new place.new }
 {
     if are_short(sums.len(), 6, place.len()) {
-        return 5;
+        return too_short();
     }
     let made = report::report(technique_of(technique), memory, n, edges);
     answer_addition(made, sums, place)
@@ -63,7 +63,7 @@ pub fn pg_add_parcel(technique: u8, parcel: &[u8], sums: &mut [u64], place: &mut
     ensures { AddCall (parcel_report (technique_of technique) parcel.now) sums.old place.old result sums.new place.new }
 {
     if are_short(sums.len(), 6, place.len()) {
-        return 5;
+        return too_short();
     }
     let made = report::report_parcel(technique_of(technique), parcel);
     answer_addition(made, sums, place)

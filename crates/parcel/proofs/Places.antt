@@ -67,9 +67,3 @@ module _ (s m g : List ℕ) (found : Read) (m₁ g₁ : List ℕ) (so : ReadSo 2
 
   pub edges_front : take (e * 2) g₁ ≡ edges
   edges_front = rw edges_are (take_at edges _ (e * 2) (length_numbers 2 (e * 2) _))
-
-  pub memory_room : c + d ≤ length m₁
-  memory_room = rw memory_is (omega (arith, length-append (code ++ words) (drop (length (code ++ words)) m), length_memory))
-
-  pub edges_room : e * 2 ≤ length g₁
-  edges_room = rw edges_are (omega (arith, length-append edges (drop (length edges) g), length_numbers 2 (e * 2) (drop (8 + c * 8) s)))

@@ -7,8 +7,11 @@ ghost use Rattle.lists.specs.Places.{put_over};
 
 use rising::Number;
 
-// A number of so many bytes, read from them and written to them.
-pub trait InBytes: Number {
+// A number of so many bytes, which a parcel has.
+pub trait InBytes: Stored {}
+
+// Its bytes, read and written where there is room for them: within this crate alone, since the two ask for the room.
+pub(crate) trait Stored: Number {
     const WIDTH: usize;
 
     ghost WIDTH: { ℕ };
@@ -24,8 +27,11 @@ pub trait InBytes: Number {
     ghost small: { WIDTH ≤ 8 };
 }
 
-// From_le_bytes and to_le_bytes of the library would name the bytes one by one; halves are as short, and go by one law over the width.
-impl InBytes for u16 {
+// `from_le_bytes` and `to_le_bytes` go by an array of bytes for each width, and would need a law of their own here for each; halves go by
+// one law over the width.
+impl InBytes for u16 {}
+
+impl Stored for u16 {
     const WIDTH: usize = 2;
 
     ghost WIDTH = { 2 };
@@ -42,7 +48,9 @@ impl InBytes for u16 {
     ghost small = { lit≤ tt };
 }
 
-impl InBytes for u32 {
+impl InBytes for u32 {}
+
+impl Stored for u32 {
     const WIDTH: usize = 4;
 
     ghost WIDTH = { 4 };
@@ -59,7 +67,9 @@ impl InBytes for u32 {
     ghost small = { lit≤ tt };
 }
 
-impl InBytes for u64 {
+impl InBytes for u64 {}
+
+impl Stored for u64 {
     const WIDTH: usize = 8;
 
     ghost WIDTH = { 8 };

@@ -13,6 +13,7 @@ ghost use Rattle.std.proofs.lemmas.List.Edits.{sets};
 
 use answers::{Fault, Place, Refusal};
 pub use bytes::InBytes;
+use bytes::Stored;
 pub use reader::Counts;
 use rising::EdgeNumber;
 
@@ -85,6 +86,7 @@ fn width(edition: Edition) -> usize
     }
 }
 
+// That a number has at most 8 bytes is asked where the width is a number: a type for widths would be read once, here and in the reader.
 // What reading answers where so many words and edge numbers are lent.
 fn room_for(parcel: &[u8], width: usize, words: usize, numbers: usize) -> Result<Counts, Fault>
     requires { width ≤ 8 }

@@ -3,7 +3,7 @@ ghost use Rattle.std.specs.Prelude.{◌≡◌, ◌+◌, ◌*◌, ◌≤◌, drop
 ghost use Rattle.parcel.specs.Parcel.{count_of, read_of, counts_of};
 ghost use Rattle.parcel.specs.Inner.{held_of};
 
-use crate::bytes::InBytes;
+use crate::bytes::Stored;
 use answers::{Fault, Refusal};
 
 // How many code words, edges and data words a parcel holds.

@@ -14,7 +14,7 @@ use Rattle.report.specs.Figures.{words_of_kind, kinds_of, highest, freedom_by}
 abbrev pub row_of : Kind → ℕ
 row_of kind = min (opcode_of kind) 9
 
--- a number below n, or n where there is none
+-- the number, or n where there is none
 abbrev pub number_or : ℕ → Option ℕ → ℕ
 number_or n None = n
 number_or n (Some w) = w

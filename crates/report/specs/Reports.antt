@@ -13,11 +13,7 @@ use Rattle.report.specs.Figures.{figures_of}
 abbrev pub Report : Type 0
 Report = Result Figures Fault
 
--- the verdict that a report gives, and the freedom in it: a refused program has none
-abbrev pub verdict_in : Report → Verdict
-verdict_in (Ok figures) = Ok tt
-verdict_in (Err f) = Err f
-
+-- the freedom in a report: a refused program has none
 abbrev pub freedom_in : Report → Option Freedom
 freedom_in (Ok figures) = figures.freedom
 freedom_in (Err f) = None

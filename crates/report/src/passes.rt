@@ -36,6 +36,7 @@ impl Code<'_> {
         let mut jump_room = [0u16; 2048];
         let labels = &mut label_room[..self.n];
         let jumps = &mut jump_room[..self.n];
+        // The jmps are counted at 6, their opcode: with the opcode asked of the kind here the proof didn't close.
         let kinds = self.count_words(labels, jumps);
         Figures {
             kinds,

@@ -20,7 +20,7 @@ use Rattle.isa.specs.Instructions.{instr_at, is_jump, is_branch}
 use Rattle.graph.specs.Claim.{is_destination, id_of}
 use Rattle.graph.proofs.Edges.{id_below}
 use Rattle.guards.specs.Patterns as patterns
-use Rattle.guarded.specs.Rewrite.{body_size, with_target, jump_words, store_words, word_moved, label_of, set_of, label_at, block_at}
+use Rattle.guarded.specs.Rewrite.{body_size, jump_words, store_words, word_moved, label_of, set_of, label_at, block_at}
 use Rattle.guarded.proofs.Cases.{at_jump, at_other}
 use Rattle.guarded.proofs.Places.{label_length, map_next, map_le, map_lt}
 use Rattle.rewrite.specs.Inside.{map_plain, length_plain, body_plain, block_plain, Ready, Labelled}

@@ -11,9 +11,10 @@ ghost use Rattle.rewrite.specs.Inside.{map_plain, body_plain, block_plain, code_
 use crate::Layout;
 use isa::{Kind, kind_of_word};
 
+// The room in `code` and an address below n are asked at each call: the place is lent anew, so no struct can hold them.
 impl Layout<'_> {
     // All blocks, and the illegal word.
-    #[tactic(auto, using(guarded::proofs::Places::block_length, crate::proofs::Laying::put_none, crate::proofs::Laying::put_more, crate::proofs::Laying::end_put))]
+    #[tactic(auto, using(guarded::proofs::Places::block_length, crate::proofs::Laying::put_more, crate::proofs::Laying::end_put))]
     pub(crate) fn put_code(&self, code: &mut [u64])
         requires { self.now.total ≤ length code.old }
         ensures { code.new ≡ sets code.old 0 (code_plain self.now.bare.memory.now self.now.bare.n self.now.bare.edges.now) }
@@ -25,7 +26,7 @@ impl Layout<'_> {
     }
 
     // The block of the word at a: a label where it is a destination, and then what stands for the word.
-    #[tactic(auto, using(crate::proofs::Bodies::room, crate::proofs::Bodies::body_room, crate::proofs::Bodies::block_put))]
+    #[tactic(auto, using(crate::proofs::Bodies::room, crate::proofs::Bodies::body_room))]
     fn put_block(&self, a: usize, code: &mut [u64])
         requires { (a < self.now.bare.n) × (self.now.total ≤ length code.old) }
         ensures { code.new ≡ sets code.old (map_plain self.now.bare.memory.now self.now.bare.n self.now.bare.edges.now a) (block_plain self.now.bare.memory.now self.now.bare.n self.now.bare.edges.now a) }
@@ -35,7 +36,6 @@ impl Layout<'_> {
     }
 
     // The label of a destination, by the ID that owns it, and the place behind it.
-    #[tactic(auto, using(crate::proofs::Bodies::label_room))]
     fn put_label(&self, a: usize, code: &mut [u64]) -> usize
         requires { (a < self.now.bare.n) × (self.now.total ≤ length code.old) }
         ensures { Labelled result code.new code.old (get_or self.now.entries.now a 0) (ltb (get_or self.now.own.now a 0) self.now.bare.n) (get_or self.now.entries.now (get_or self.now.own.now a 0) 0) }
@@ -80,7 +80,6 @@ fn label_word(id: u16) -> u64
 }
 
 // The words of a jmp's guard, with the register of that jmp in the first of them.
-#[tactic(auto, using(crate::proofs::Laying::part_put))]
 fn put_guard(words: &[u64; 10], id: u64, jump: u64, at: usize, code: &mut [u64])
     requires { (length words.now ≡ 10) × (get_or words.now 0 0 < 2 ^ 63) × (at + 6 ≤ length code.old) }
     ensures { code.new ≡ sets code.old at ((get_or words.now 0 0 + jump / 2 ^ 48 % 256 * 2 ^ 40) ∷ get_or words.now 1 0 ∷ id ∷ get_or words.now 3 0 ∷ get_or words.now 4 0 ∷ get_or words.now 5 0 ∷ []) }

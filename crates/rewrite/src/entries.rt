@@ -14,7 +14,7 @@ use isa::{Kind, is_a};
 
 impl BareCode<'_> {
     // Where each block begins, and the length of the new code. The sums stay below 7 times 2,048, so that 16 bits hold them.
-    #[tactic(auto, using(crate::proofs::Laying::entry_none, crate::proofs::Laying::entry_more, crate::proofs::Laying::entry_all))]
+    #[tactic(auto, using(crate::proofs::Laying::entry_all))]
     pub(crate) fn fill_entries(&self, own: &[u16; 2048], entries: &mut [u16; 2048]) -> usize
         requires { Owned self.now.edges.now self.now.n own.now }
         ensures { Laid result entries.new self.now.memory.now self.now.n self.now.edges.now }
@@ -44,7 +44,7 @@ fn body_size(word: u64) -> usize
 
 impl Layout<'_> {
     // The edges, in their sequence: from the last word of the jump's block to the first of the target's.
-    #[tactic(auto, using(guarded::proofs::Claims::pair, crate::proofs::Laying::put_none, crate::proofs::Laying::entry_above, crate::proofs::Laying::edge_more, crate::proofs::Laying::put_all))]
+    #[tactic(auto, using(guarded::proofs::Claims::pair, crate::proofs::Laying::put_all))]
     pub(crate) fn put_edges(&self, new_edges: &mut [u16])
         requires { 2 * edge_count self.now.bare.edges.now ≤ length new_edges.old }
         ensures { new_edges.new ≡ sets new_edges.old 0 (edges_plain self.now.bare.memory.now self.now.bare.n self.now.bare.edges.now) }
@@ -59,7 +59,6 @@ impl Layout<'_> {
     }
 
     // An entry for each bare address.
-    #[tactic(auto, using(crate::proofs::Laying::entries_put))]
     pub(crate) fn put_entries(&self, map: &mut [u16])
         requires { self.now.bare.n ≤ length map.old }
         ensures { map.new ≡ sets map.old 0 (entries_plain self.now.bare.memory.now self.now.bare.n self.now.bare.edges.now) }

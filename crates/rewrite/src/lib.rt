@@ -42,8 +42,9 @@ pub fn rewrite(
     rewrite_bare(&BareCode { memory, n, edges }, code, new_edges, map)
 }
 
+// The three places stay apart: a struct of three `&mut` would be taken apart again to lend them.
 // Number 22, and 5 after it.
-#[tactic(auto, using(lists::proofs::Tables::table_new, checker::proofs::Rules::no_rule, checker::proofs::Rules::broken_once, checker::proofs::Rules::kept_once, crate::proofs::Laying::table_grow, crate::proofs::Verdicts::laid_below, crate::proofs::Verdicts::refused_put, crate::proofs::Verdicts::put_as))]
+#[tactic(auto, using(checker::proofs::Rules::no_rule, checker::proofs::Rules::broken_once, checker::proofs::Rules::kept_once, crate::proofs::Verdicts::refused_put, crate::proofs::Verdicts::put_as))]
 #[inline(never)]
 fn rewrite_bare(
     bare: &BareCode,
@@ -53,6 +54,7 @@ fn rewrite_bare(
 ) -> Result<Rewritten, Fault>
     ensures { Put (first_broken (from_length bare.now.memory.now bare.now.n bare.now.edges.now)) (plain_of bare.now.memory.now bare.now.n bare.now.edges.now) code.old new_edges.old map.old result code.new new_edges.new map.new }
 {
+    // As in the checker, n is nobody, in numbers of 16 bits: an enum takes twice the stack.
     let nobody = bare.n as u16;
     let mut ids = [nobody; 2048];
     bare.lowest_targets(&mut ids);
@@ -92,7 +94,7 @@ struct Layout<'a> {
 
 impl Layout<'_> {
     // The code, the edges and the map, where each has its place.
-    #[tactic(auto, using(crate::proofs::Verdicts::ready_below, crate::proofs::Verdicts::short_put, crate::proofs::Verdicts::places_long, crate::proofs::Verdicts::all_put))]
+    #[tactic(auto, using(crate::proofs::Verdicts::short_put, crate::proofs::Verdicts::places_long))]
     fn put(
         &self,
         code: &mut [u64],

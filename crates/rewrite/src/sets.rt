@@ -21,7 +21,7 @@ impl BareCode<'_> {
     }
 
     // For each destination the ID of its set, and for every other address n.
-    #[tactic(auto, using(crate::proofs::TargetSets::owning_none, crate::proofs::TargetSets::owning_more, crate::proofs::TargetSets::owning_all))]
+    #[tactic(auto, using(crate::proofs::TargetSets::owning_none))]
     pub(crate) fn put_owners(&self, ids: &[u16; 2048], own: &mut [u16; 2048])
         requires { Table ids.now self.now.n (id_of self.now.edges.now self.now.n) × Table own.old self.now.n (λ _. self.now.n) }
         ensures { Owned self.now.edges.now self.now.n own.new }

@@ -67,7 +67,7 @@ impl EdgeNumber for u16 {
     ghost value = { λ x. x };
 
     fn rank(jump: u16, target: u16) -> u32 {
-        jump as u32 * 65536 + target as u32
+        u32::from(jump) * 65536 + u32::from(target)
     }
 
     fn rises(before: u32, here: u32) -> bool {
@@ -83,7 +83,7 @@ impl EdgeNumber for u32 {
     ghost value = { λ x. x };
 
     fn rank(jump: u32, target: u32) -> u64 {
-        jump as u64 * 0x1_0000_0000 + target as u64
+        u64::from(jump) * 0x1_0000_0000 + u64::from(target)
     }
 
     fn rises(before: u64, here: u64) -> bool {

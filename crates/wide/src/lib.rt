@@ -8,7 +8,7 @@ ghost use Rattle.capi.specs.Checks.{CheckCall};
 ghost use Rattle.capi.specs.Parcels.{ReadCall, bytes_in, write_call};
 ghost use Rattle.wide.specs.Calls.{PutCall};
 
-use capi::{put_answer, put_written, room_of, technique_of};
+use capi::{put_answer, put_written, room_of, technique_of, too_short};
 
 pub fn pg_check_wide(
     technique: u8,
@@ -20,7 +20,7 @@ pub fn pg_check_wide(
     ensures { CheckCall technique memory.now n edges.now place.old result place.new }
 {
     if place.len() < 2 {
-        return 5;
+        return too_short();
     }
     put_answer(
         place,

@@ -12,4 +12,4 @@ returns g c =
     let xs = g.N.Number.numbers a.xs.now in
     let long = numbers_length g.N.Number.numbers g.N.Number.number g.N.Number.each a.xs.now in
     let count : c.write.new.s ≡ sets a.s.now a.at (bytes_of 4 (length xs / a.each)) = rw long c.write.ensures in
-    section_put g.N.InBytes.WIDTH a.each a.at xs a.s.now count c.put_numbers.ensures
+    section_put g.N.Stored.WIDTH a.each a.at xs a.s.now count c.put_numbers.ensures

@@ -7,14 +7,14 @@ use Rattle.parcel.proofs.read_parcel.Goals as goal
 pub overflow_mul-found-2 : goal.overflow_mul-found-2
 overflow_mul-found-2 g c =
     let t = fitting c.WIDTH-width.result c.args.parcel.now (length c.args.memory.now) (length c.args.edges.now) c.in_ok-found.ensures in
-    let small = g.met.E.InBytes.small in
+    let small = g.met.E.Stored.small in
     let p = pairs_small t.all (omega (arith, small, c.WIDTH-width.ensures)) in
     omega arith
 
 pub overflow_add-found-2 : goal.overflow_add-found-2
 overflow_add-found-2 g c =
     let t = fitting c.WIDTH-width.result c.args.parcel.now (length c.args.memory.now) (length c.args.edges.now) c.in_ok-found.ensures in
-    let small = g.met.E.InBytes.small in
+    let small = g.met.E.Stored.small in
     let p = pairs_small t.all (omega (arith, small, c.WIDTH-width.ensures)) in
     let n = t.all.code_limit in
     omega arith

@@ -16,7 +16,7 @@ use Rattle.parcel.proofs.write_parcel.Goals as goal
 pub returns-in_err-size : goal.returns-in_err-size
 returns-in_err-size g c =
     let a = c.args in
-    let w = g.E.InBytes.WIDTH in
+    let w = g.E.Stored.WIDTH in
     let xs = g.E.Number.numbers a.edges.now in
     let long = numbers_length g.E.Number.numbers g.E.Number.number g.E.Number.each a.edges.now in
     let known : call_shaped (length a.memory.now) a.n (length xs) ≡ true = rw long (sym c.call_shaped.ensures ∙ c.if-not-call_shaped.false) in
@@ -29,7 +29,7 @@ pub returns : goal.returns
 returns g c =
     let a = c.args in
     let m = a.memory.now in
-    let w = g.E.InBytes.WIDTH in
+    let w = g.E.Stored.WIDTH in
     let xs = g.E.Number.numbers a.edges.now in
     let data_at = 8 + a.n * 8 + length xs * w in
     let long = numbers_length g.E.Number.numbers g.E.Number.number g.E.Number.each a.edges.now in

@@ -1,9 +1,18 @@
-use Rattle.isa.specs.Instructions.{is_kind}
+-- `branches::ends_near` meets its contract: the chain asks each word from w on.
+use Rattle.std.proofs.Common.{rules, tests, ◌&&◌, refl}
+use Rattle.std.proofs.lemmas.Iterator.{YieldsList-from_range}
+use Rattle.std.proofs.lemmas.Iterator.Search.{any_from_yields_List}
+use mathlib.Core.Path.{◌∙◌}
 use native.Mathlib.Omega.{arith}
-use Rattle.guards.proofs.Endings.{near_none}
+use Rattle.isa.specs.Words.{known}
+use Rattle.isa.specs.Instructions.{instr_at, is_kind}
+use Rattle.guards.proofs.Endings.{near_listed}
 use Rattle.checker.proofs.branches.ends_near.Goals as goal
 
 pub returns : goal.returns
 returns c =
-    near_none (is_kind c.args.kind) c.args.code.now.memory.now c.args.len c.args.w _ _ c.loop-a.invariant.1
-    (λ x l q. omega (arith, c.min-a-end.ensures, c.loop-a-test.false, c.requires.0))
+    any_from_yields_List (λ a. known c.args.kind && is_kind c.args.kind (instr_at c.args.code.now.memory.now a)) _ _ _ c.any.ensures.ran
+    (YieldsList-from_range c.args.w c.min.result _ refl refl) (λ x b q k. search (rules, tests))
+    ∙ near_listed (is_kind c.args.kind) c.args.code.now.memory.now c.args.len c.args.w _ c.args.code.now.n c.min.result
+    (λ a. rw c.requires.3) (omega (arith, c.min.ensures)) (omega (arith, c.min.ensures, c.requires))
+    (λ x l q. omega (arith, c.min.ensures, c.requires))

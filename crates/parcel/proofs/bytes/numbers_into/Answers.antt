@@ -6,7 +6,7 @@ use Rattle.parcel.proofs.bytes.numbers_into.Goals as goal
 
 pub loop-i-preserved : goal.loop-i-preserved
 loop-i-preserved g c =
-    let w = g.N.InBytes.WIDTH in
+    let w = g.N.Stored.WIDTH in
     let read : g.N.Number.number c.read.result ≡ number_of w (drop (c.args.at + c.loop-i.i * w) c.args.s.now) =
     subst (λ (v : ℕ). g.N.Number.number c.read.result ≡ number_of w (drop (c.args.at + c.loop-i.i * v) c.args.s.now)) c.WIDTH.ensures c.read.ensures in
     subst (λ (to : List ℕ). Reading w c.args.s.now c.args.at c.args.k (g.N.Number.numbers c.args.to.now) to (c.loop-i.i + 1))

@@ -7,7 +7,7 @@ use Rattle.parcel.proofs.bytes.put_numbers.Goals as goal
 
 pub loop-i-preserved : goal.loop-i-preserved
 loop-i-preserved g c =
-    let w = g.N.InBytes.WIDTH in
+    let w = g.N.Stored.WIDTH in
     let xs = g.N.Number.numbers c.args.xs.now in
     let i = c.loop-i.i in
     let long = numbers_length g.N.Number.numbers g.N.Number.number g.N.Number.each c.args.xs.now in

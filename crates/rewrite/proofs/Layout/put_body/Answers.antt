@@ -4,7 +4,7 @@ use Rattle.std.proofs.lemmas.List.Edits.{sets}
 use Rattle.isa.specs.declared.Instr.{Instr}
 use Rattle.isa.specs.Words.{encode_of}
 use Rattle.isa.specs.Instructions.{instr_at}
-use mathlib.Core.Path.{sym, ap, ◌∙◌}
+use mathlib.Core.Path.{ap, ◌∙◌}
 use native.Mathlib.Omega.{arith}
 use Rattle.rewrite.proofs.Moved.{first_small}
 use Rattle.rewrite.proofs.Bodies.{jump_kind, jump_id, jump_put, jump_room, branch_kind, target_below, branch_put}

@@ -1,29 +1,15 @@
-use Rattle.std.proofs.Common.{◌≡◌}
-use native.Mathlib.Omega.{arith}
-use mathlib.Core.Path.{sym, ◌∙◌}
+-- `claim::Claim::run_end` meets its contract: the chain asks each edge from k on.
+use Rattle.std.proofs.Common.{rules, tests, ◌≡◌, arith}
+use Rattle.std.proofs.lemmas.Iterator.{first_from_Range}
+use mathlib.Core.Logic.{◌≢◌}
 use Rattle.graph.specs.Claim.{jump_of}
-use Rattle.checker.proofs.Runs.{stretch_more}
+use Rattle.checker.proofs.Runs.{run_told}
 use Rattle.checker.proofs.claim.Claim.run_end.Goals as goal
-
-pub loop-end-preserved : goal.loop-end-preserved
-loop-end-preserved c =
-    stretch_more (λ i. jump_of c.args.self.now.edges.now i ≡ c.args.j) _ _ c.loop-end.invariant
-    (sym c.jump_number.ensures ∙ c.if-jump_number-j.false)
-
-pub returns-then-jump_number-j : goal.returns-then-jump_number-j
-returns-then-jump_number-j c =
-    record {
-      from = c.loop-end.auto.end;
-      upto = omega (arith, c.loop-end-test.true, c.count-end-end.ensures);
-      mine = c.loop-end.invariant;
-      next = λ l e. c.if-jump_number-j.true (c.jump_number.ensures ∙ e);
-    }
 
 pub returns : goal.returns
 returns c =
-    record {
-      from = omega (arith, c.requires, c.count.ensures);
-      upto = omega (arith, c.count.ensures);
-      mine = λ i l q. c.loop-end.invariant i l (omega (arith, c.count.ensures, c.count-end-end.ensures, c.loop-end-test.false));
-      next = λ l. absurd (omega (arith, c.count.ensures));
-    }
+    let edges = c.args.self.now.edges.now in
+    run_told edges c.args.j c.args.k c.count-m.result c.unwrap_or.result c.find.result (omega (arith, c.requires, c.count-m.ensures)) c.count-m.ensures c.unwrap_or.ensures
+    (first_from_Range _ _ _ c.find.result (λ i. jump_of edges i ≢ c.args.j) (λ i. jump_of edges i ≡ c.args.j) c.find.ensures.ran
+    (λ x q k. grind (arith, tests))
+    (λ x q k. (search rules, grind (arith, tests))))

@@ -1,7 +1,7 @@
 -- Two bytes are two numbers of one byte.
 use Rattle.std.proofs.Common.{◌+◌}
 use Rattle.parcel.proofs.Numbers.{number_halves, number_byte}
-use Rattle.parcel.proofs.bytes.U16InBytes.read.Goals as goal
+use Rattle.parcel.proofs.bytes.U16Stored.read.Goals as goal
 
 pub returns : goal.returns
 returns c =

@@ -1,7 +1,7 @@
 -- Its two bytes, one after the other.
 use Rattle.std.proofs.Common.{ℕ, ◌/◌, ◌%◌, ◌<◌, ◌≡◌, slice_set, add-one, arith, rules, sym}
 use Rattle.parcel.specs.Bytes.{bytes_of}
-use Rattle.parcel.proofs.bytes.U16InBytes.write.Goals as goal
+use Rattle.parcel.proofs.bytes.U16Stored.write.Goals as goal
 
 -- the high byte is what is left
 high : (x : ℕ) → x < 65536 → x / 256 % 256 ≡ x / 256
