@@ -1,10 +1,10 @@
 -- What 20 and 21 ask of a word, by its kind and its bytes: a legal word's fields are its bytes, and an illegal one names nothing.
 use Prim.Native.Nat.{ℕ, ◌/◌, ◌%◌, ◌^◌}
-use mathlib.Core.Path.{◌≡◌, refl, sym, ap, ◌∙◌}
-use mathlib.Core.Bool.{Bool, true, false, cond, ◌&&◌, ◌||◌}
+use mathlib.Core.Path.{◌≡◌, refl, sym, ◌∙◌}
+use mathlib.Core.Bool.{Bool, true, false, cond, ◌||◌}
 use mathlib.Core.List.{List, []}
 use native.Mathlib.Omega.{arith}
-use lib.Dec.{ltb, leb}
+use lib.Dec.{ltb}
 use lib.ListN.{length}
 use Rattle.lists.proofs.Bools.{or_left, or_right}
 use Rattle.lists.proofs.Search.{lowest_none, any_none}
@@ -13,9 +13,8 @@ use Rattle.std.specs.List.{fold}
 use Rattle.isa.specs.declared.Kind.{Kind}
 use Rattle.isa.specs.declared.Instr.{Instr}
 use Rattle.isa.specs.Words.{named_by, exact, split, instr_of, fields_of, decode_of}
-use Rattle.isa.specs.Instructions.{instr_at, is_branch, branch_target}
+use Rattle.isa.specs.Instructions.{instr_at, branch_target}
 use Rattle.isa.proofs.Words.{exact_back}
-use Rattle.isa.proofs.ByKind.{branch_low, no_branch}
 use Rattle.checker.specs.Verdicts.{first_broken}
 use Rattle.checker.proofs.Rules.{kept, no_rule}
 use Rattle.guarded.specs.Rules.{is_reserved, names_reserved, is_unfit, outside, word_rules}
@@ -48,13 +47,6 @@ low_by_kind x = go (exact (split x)) refl
     go true e =
         rw (exact_back (split x) e)
         (sym (named_first (split x).kind (x / 2 ^ 48 % 256) (x / 2 ^ 40 % 256) (x / 2 ^ 32 % 256)))
-
-pub out_by_kind : (n x : ℕ) → (is_branch (decode_of x) && leb n (x % 2 ^ 32)) ≡ outside n (branch_target (decode_of x))
-out_by_kind n x = go (is_branch (decode_of x)) refl
-  where
-    go : (b : Bool) → is_branch (decode_of x) ≡ b → (is_branch (decode_of x) && leb n (x % 2 ^ 32)) ≡ outside n (branch_target (decode_of x))
-    go true e = ap (λ (b : Bool). b && leb n (x % 2 ^ 32)) e ∙ sym (ap (outside n) (branch_low x e))
-    go false e = ap (λ (b : Bool). b && leb n (x % 2 ^ 32)) e ∙ sym (ap (outside n) (no_branch (decode_of x) e))
 
 -- where no word is found, 20 and 21 pass
 pub none_wrong : (code : List ℕ) → fold (λ found word. is_wrong (length code) (decode_of word) || found) false code ≡ false

@@ -1,28 +1,22 @@
 -- Chains over the words of a code, as the rules ask: the first place that a test holds at, and whether there is one.
 use Prim.Native.Nat.{ℕ, zero, suc, ◌+◌, ◌≤◌, ◌<◌}
 use mathlib.Core.Path.{◌≡◌, refl, sym, ap, ◌∙◌}
-use mathlib.Core.Bool.{Bool, true, false, cond, ◌||◌}
+use mathlib.Core.Bool.{Bool, false, ◌||◌}
 use mathlib.Core.List.{List, [], ◌∷◌}
 use native.Mathlib.Omega.{arith}
-use lib.Dec.{ltb}
 use lib.ListN.{length, get_or, take}
 use lib.Seq.{take-length}
-use Rattle.std.specs.Prelude.{Option, Some, None, Ok, Err, option_map}
 use Rattle.std.specs.List.{fold, position}
 use Rattle.std.proofs.lemmas.List.{get_or-take, length-take-le}
 use Rattle.std.proofs.lemmas.List.Sums.{fold_more}
-use Rattle.lists.specs.Search.{lowest, first, any}
+use Rattle.lists.specs.Search.{first, any}
 use Rattle.lists.proofs.Search.{lowest_ext}
 use Rattle.lists.proofs.First.{first_position}
 use Rattle.answers.specs.declared.Refusal.{Refusal}
-use Rattle.answers.specs.declared.Place.{Place}
-use Rattle.answers.specs.declared.Fault.{Fault}
-use Rattle.answers.specs.Faults.{fault, Verdict, refusal_at}
 use Rattle.isa.specs.Words.{decode_of}
 use Rattle.isa.specs.Instructions.{branch_target}
 use Rattle.checker.specs.Verdicts.{Rule, rule_per_address, first_broken}
-use Rattle.checker.proofs.Rules.{or_else, no_rule}
-use Rattle.guarded.specs.Rules.{is_unfit, outside, label_or_reserved, branches_out, word_rules}
+use Rattle.guarded.specs.Rules.{is_unfit, outside, word_rules}
 
 module _ (p : ℕ → Bool) (xs : List ℕ) where
   abbrev test : ℕ → Bool
@@ -41,49 +35,8 @@ module _ (p : ℕ → Bool) (xs : List ℕ) where
   pub found_any : fold step false xs ≡ any test (length xs)
   found_any = ap (fold step false) (sym (take-length xs)) ∙ found_before (length xs) (omega arith)
 
-  all_first : position p xs ≡ first test (length xs)
-  all_first = ap (position p) (sym (take-length xs)) ∙ first_position p xs (length xs) (omega arith)
-
--- a rule that tests addresses, and those after it
-rule_first : (why : Refusal) (n : ℕ) (test : ℕ → Bool) (rest : List Rule)
-    → first_broken (rule_per_address why n test ∷ rest) ≡ or_else (refusal_at why (option_map Place.Address (first test n))) (first_broken rest)
-unfolding first_broken
-rule_first why n test rest = go (ltb (lowest test n) n)
-  where
-    go : (b : Bool) → cond b (Err (fault why (Place.Address (lowest test n)))) (first_broken rest)
-        ≡ or_else (refusal_at why (option_map Place.Address (cond b (Some (lowest test n)) None))) (first_broken rest)
-    go true = refl
-    go false = refl
-
--- 20 and 21, as the two chains find them
-module _ (code : List ℕ) where
-  abbrev unfit : Option ℕ
-  unfit = position (λ word. is_unfit (decode_of word)) code
-
-  abbrev out : Option ℕ
-  out = position (λ word. outside (length code) (branch_target (decode_of word))) code
-
-  words_first : first_broken (word_rules code (length code) [])
-      ≡ or_else (refusal_at Refusal.LabelOrReserved (option_map Place.Address unfit)) (or_else (refusal_at Refusal.BranchOut (option_map Place.Address out)) (first_broken []))
-  words_first =
-      rule_first Refusal.LabelOrReserved (length code) (label_or_reserved code) _
-      ∙ (rw (
-        ← all_first (λ word. is_unfit (decode_of word)) code,
-        rule_first Refusal.BranchOut (length code) (branches_out code (length code)) [],
-        ← all_first (λ word. outside (length code) (branch_target (decode_of word))) code,
-      ) refl)
-
-  pub words_broken : {f : Fault} → refusal_at Refusal.LabelOrReserved (option_map Place.Address unfit) ≡ Err f
-      → Err f ≡ first_broken (word_rules code (length code) [])
-  words_broken e = sym (words_first ∙ (rw e refl))
-
-  pub words_kept : {u : Unit} → refusal_at Refusal.LabelOrReserved (option_map Place.Address unfit) ≡ Ok u
-      → refusal_at Refusal.BranchOut (option_map Place.Address out) ≡ first_broken (word_rules code (length code) [])
-  words_kept e = sym (words_first ∙ (rw e (last (refusal_at Refusal.BranchOut (option_map Place.Address out)))))
-    where
-      last : (v : Verdict) → or_else v (first_broken []) ≡ v
-      last (Ok tt) = no_rule
-      last (Err f) = refl
+  pub position_first : position p xs ≡ first test (length xs)
+  position_first = ap (position p) (sym (take-length xs)) ∙ first_position p xs (length xs) (omega arith)
 
 -- the words at the front of memory
 rule_front : (why : Refusal) (n : ℕ) (f g : ℕ → Bool) (xs ys : List Rule) → ((a : ℕ) → a < n → f a ≡ g a) → first_broken xs ≡ first_broken ys

@@ -3,14 +3,14 @@
 #![tactic(auto)]
 
 ghost use Rattle.std.specs.Prelude.{◌≡◌, false, ◌||◌, [], length, position, fold};
-ghost use Rattle.isa.specs.Words.{fields_of, decode_of};
+ghost use Rattle.isa.specs.Words.{decode_of};
 ghost use Rattle.isa.specs.Instructions.{branch_target};
 ghost use Rattle.checker.specs.Verdicts.{first_broken};
 ghost use Rattle.guarded.specs.Rules.{is_unfit, outside, word_rules, words_verdict_of};
 ghost use Rattle.bare.specs.Inside.{is_wrong, registers_in, names_low};
 
 use answers::{Place, Refusal, Verdict, refuse_at};
-use isa::{Kind, kind_of_word};
+use isa::{Fields, Kind, branch_target, kind_of_word};
 
 // Whether the n words at the front of memory, with these edges, may be rewritten, whatever the length of what comes out; and if not, the
 // number and the place of the first fault: 6, 7, 8, 18, 9 and 10 as the checkers answer them, then 20 and 21.
@@ -44,35 +44,30 @@ fn some_wrong(code: &[u64]) -> bool
 fn is_wrong(word: u64, n: usize) -> bool
     ensures { result ≡ is_wrong n (decode_of word) }
 {
-    let kind = kind_of_word(word);
-    is_unfit(kind, word) | leads_out(kind, word, n)
+    is_unfit(word) | leads_out(word, n)
 }
 
-// A label, or a word that names r0, r1 or r2. The kind is handed on, so that it is found once for both questions.
+// A label, or a word that names r0, r1 or r2.
 #[tactic(auto, using(crate::proofs::ByKind::low_by_kind))]
-fn is_unfit(kind: Kind, word: u64) -> bool
-    requires { kind ≡ (fields_of (decode_of word)).kind }
+fn is_unfit(word: u64) -> bool
     ensures { result ≡ is_unfit (decode_of word) }
 {
+    let kind = kind_of_word(word);
     (kind == Kind::Label) | names_low(word, registers_in(kind))
 }
 
 // A branch to n or above.
-#[tactic(auto, using(crate::proofs::ByKind::out_by_kind))]
-fn leads_out(kind: Kind, word: u64, n: usize) -> bool
-    requires { kind ≡ (fields_of (decode_of word)).kind }
+fn leads_out(word: u64, n: usize) -> bool
     ensures { result ≡ outside n (branch_target (decode_of word)) }
 {
-    matches!(kind, Kind::Bgt | Kind::Jd) & (n <= (word % 0x1_0000_0000) as usize)
+    branch_target(word).is_some_and(|target| n <= target)
 }
 
 fn names_low(word: u64, count: u8) -> bool
     ensures { result ≡ names_low count word }
 {
-    let a = (0 < count) & (word / 0x1_0000_0000_0000 % 256 < 3);
-    let b = (1 < count) & (word / 0x100_0000_0000 % 256 < 3);
-    let c = (2 < count) & (word / 0x1_0000_0000 % 256 < 3);
-    a | (b | c)
+    let Fields { a, b, c, .. } = Fields::of_word(word);
+    ((0 < count) & (a < 3)) | (((1 < count) & (b < 3)) | ((2 < count) & (c < 3)))
 }
 
 fn registers_in(kind: Kind) -> u8
@@ -87,6 +82,7 @@ fn registers_in(kind: Kind) -> u8
 }
 
 // The first that breaks 20, and if there is none, the first that breaks 21.
+#[tactic(auto, using(checker::proofs::Rules::broken_next, checker::proofs::Rules::no_rule, crate::proofs::Chains::position_first))]
 fn find_wrong(code: &[u64]) -> Verdict
     ensures { result ≡ first_broken (word_rules code.now (length code.now) []) }
 {
@@ -104,14 +100,12 @@ fn find_wrong(code: &[u64]) -> Verdict
 fn first_unfit(code: &[u64]) -> Option<usize>
     ensures { result ≡ position (λ word. is_unfit (decode_of word)) code.now }
 {
-    code.iter()
-        .position(|word| is_unfit(kind_of_word(*word), *word))
+    code.iter().position(|word| is_unfit(*word))
 }
 
 // Number 21: the lowest address of a branch to n or above.
 fn first_branch_out(code: &[u64]) -> Option<usize>
     ensures { result ≡ position (λ word. outside (length code.now) (branch_target (decode_of word))) code.now }
 {
-    code.iter()
-        .position(|word| leads_out(kind_of_word(*word), *word, code.len()))
+    code.iter().position(|word| leads_out(*word, code.len()))
 }

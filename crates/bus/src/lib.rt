@@ -1,7 +1,7 @@
 // The bus writes (document 01, "Steps").
 //
 // `write_register` takes and returns the state by value; `write_register_lent` works on a state that is lent as words, without
-// a copy.
+// a copy (a rule of the project: by value at the boundary, lent inside).
 #![tactic(auto)]
 
 ghost use Rattle.std.specs.Prelude.{◌≤◌, length};

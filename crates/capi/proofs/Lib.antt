@@ -1,5 +1,4 @@
-pub mod States
-pub mod Checks
+pub mod Rooms
 pub mod Puts
 pub mod Parcels
 pub mod Unchanged

@@ -1,4 +1,5 @@
 // The calls for C and Rust: numbers and slices, a slice as its pointer and its length. `include/post_guard.h` declares them.
+// C lends each place and each number by itself, and so the lists of parameters are long.
 #![tactic(auto)]
 
 ghost use Rattle.std.specs.Prelude.{◌≡◌, cond, ◌||◌, ◌++◌, drop, length, ltb, MatchResult};
@@ -35,6 +36,7 @@ pub fn pg_encode(opcode: u8, a: u8, b: u8, c: u8, w: u32) -> u64
 }
 
 // A step is a run with limit 1.
+#[tactic(auto, using(machine::proofs::OneStep::one_step))]
 pub fn pg_step(technique: u8, state: &mut [u64], memory: &mut [u64], n: usize) -> u32
     ensures { StepCall technique n state.old memory.old result state.new memory.new }
 {
@@ -60,14 +62,12 @@ pub fn pg_run(
     (ran % 0x1_0000_0000) as u32
 }
 
-#[tactic(auto, using(crate::proofs::Checks::written_numbered))]
 pub fn pg_write_data(memory: &mut [u64], n: usize, address: u64, word: u64) -> u32
     ensures { WriteDataCall n memory.old address word result memory.new }
 {
     number_of(bus::write_data(memory, n, address, word))
 }
 
-#[tactic(auto, using(crate::proofs::Checks::written_numbered))]
 pub fn pg_write_register(state: &mut [u64], register: u64, word: u64) -> u32
     ensures { WriteRegisterCall state.old register word result state.new }
 {
@@ -125,7 +125,6 @@ pub fn pg_write_parcel_placed(
 }
 
 // A parcel of either edition read, and its counts put down.
-#[tactic(auto, using(crate::proofs::Puts::room_fits))]
 pub fn read_lent<E: EdgeNumber + InBytes>(
     parcel: &[u8],
     memory: &mut [u64],
@@ -141,7 +140,6 @@ pub fn read_lent<E: EdgeNumber + InBytes>(
 }
 
 // A parcel of either edition written, and its size and the place of a refusal put down.
-#[tactic(auto, using(crate::proofs::Puts::room_fits))]
 pub fn write_lent<E: EdgeNumber + InBytes>(
     memory: &[u64],
     n: usize,
@@ -176,6 +174,7 @@ pub fn room_of(counts: usize, needed: usize, place: usize, len: usize) -> usize
 }
 
 // The number of what was written, and its size and its place put down.
+// No plainer by one function with `put_read`: that puts no place, and each answer would have to be mapped to an array of its own length first.
 pub fn put_written(written: Result<usize, Fault>, count: &mut [u64], place: &mut [u64]) -> u32
     ensures { WrittenPut written count.old place.old result count.new place.new }
 {

@@ -1,4 +1,3 @@
-pub mod Places
 pub mod Rules
 pub mod Listed
 pub mod Faultless

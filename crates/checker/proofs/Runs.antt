@@ -7,24 +7,27 @@ use mathlib.Core.List.{List}
 use native.Mathlib.Omega.{arith}
 use native.Mathlib.Nat.{eq-or-lt_of_le}
 use native.Mathlib.Decide.{dec_lt, ℕ_discrete}
-use lib.Dec.{eqb}
+use lib.Dec.{eqb, leb}
 use lib.ListN.{length, get_or, set}
-use borrow.Author.Tests.{eq-eqb, ne_eqb, eqb-true}
+use borrow.Author.Tests.{eq-eqb, ne_eqb, eqb-true, not-false}
 use Rattle.lists.specs.Search.{bit}
 use Rattle.lists.specs.Tables.{Table}
-use Rattle.lists.proofs.Bools.{and_left, both_true, refuted, same_bool}
+use Rattle.lists.proofs.Bools.{and_left, or_right, true_false, both_true, refuted, same_bool}
 use Rattle.lists.proofs.Search.{lowest_at, any_hit, any_clean, any_witness}
 use Rattle.lists.proofs.Counts.{count_ext, count_zero}
 use Rattle.lists.proofs.Tables.{table_as, table_set}
 use Rattle.graph.specs.Claim.{edge_count, jump_of, target_of, is_edge, has_edge, id_of}
 use Rattle.isa.specs.Instructions.{instr_at, is_jump}
-use Rattle.graph.specs.Rules.{lacks_edge}
+use Rattle.graph.specs.Rules.{starts_at_no_jump, lacks_edge}
 use Rattle.graph.specs.Passes.{Within, edge_in}
 use Rattle.graph.proofs.Edges.{edge_more, edge_at, edge_of}
 use Rattle.rising.specs.Rising.{Above, Rising}
 use Rattle.rising.proofs.Sizes.{size_in, size_more}
-use Rattle.checker.specs.Passes.{Run, EdgesOf}
+use Rattle.checker.specs.Passes.{Run, EdgesOf, OwnedBy}
 use Rattle.std.specs.Prelude.{Option, Some, None}
+use Rattle.std.specs.Bool.{MatchBool}
+use Rattle.std.specs.List.{range_with_len, AllWithin, HoldsAt}
+use Rattle.std.proofs.lemmas.List.FromFn.{length-range_with_len, get_or-range_with_len}
 use Rattle.std.specs.Option.{MatchOption, unwrap_or}
 
 -- the first k edges are those that start below a
@@ -35,17 +38,6 @@ pub record Cut (edges : List ℕ) (a k : ℕ) : Type 0 where
 
 pub cut_none : (edges : List ℕ) → Cut edges 0 0
 cut_none edges = record { place = omega arith; below = λ i l. absurd (omega arith); above = λ i l h. omega arith }
-
--- one place more of a stretch
-pub stretch_none : (P : ℕ → Type 0) (k : ℕ) → (i : ℕ) → k ≤ i → i < k → P i
-stretch_none P k i l q = absurd (omega arith)
-
-pub stretch_more : (P : ℕ → Type 0) (k m : ℕ) → ((i : ℕ) → k ≤ i → i < m → P i) → P m → (i : ℕ) → k ≤ i → i < m + 1 → P i
-stretch_more P k m h p i l q = go (ℕ_discrete i m)
-  where
-    go : Dec (i ≡ m) → P i
-    go (yes e) = subst P (sym e) p
-    go (no ne) = h i l (omega (arith, ne))
 
 -- a run by the jump of edge k; that edge is in it
 pub run_at : (edges : List ℕ) {j : ℕ} (k end : ℕ) → j ≡ jump_of edges k → Run edges j k end → Run edges (jump_of edges k) k end
@@ -113,6 +105,22 @@ module _ (edges : List ℕ) (n k end : ℕ) (x : EdgesOf edges n k end) where
       let p = x.all v.0 v.1 v.2 in
       subst P v.3 (h v.0 p.0 p.1)
 
+  -- whether the targets of all its edges are owned by o, asked of each edge
+  pub owned_told : (own : List ℕ) (o : ℕ) (r : Bool)
+      → MatchBool r (AllWithin (λ i. get_or own (target_of edges i) 0 ≡ o) (range_with_len k (end - k)) 0 (length (range_with_len k (end - k))))
+      ((d : ℕ) × (d < length (range_with_len k (end - k))) × HoldsAt (λ i. get_or own (target_of edges i) 0 ≢ o) (range_with_len k (end - k)) d)
+      → OwnedBy r edges (jump_of edges k) o own
+  owned_told own o true h =
+      all_targets (λ t. get_or own t 0 ≡ o)
+      (λ i l q.
+      let d : i - k < end - k = omega arith in
+      let at : get_or (range_with_len k (end - k)) (i - k) 0 ≡ i = get_or-range_with_len k (end - k) (i - k) 0 d ∙ omega (arith, l) in
+      rw at at (h (i - k) 0 (omega arith) (omega (arith, d, length-range_with_len k (end - k)))))
+  owned_told own o false h =
+      let d : h.0 < end - k = omega (arith, h.1, length-range_with_len k (end - k)) in
+      let at : get_or (range_with_len k (end - k)) h.0 0 ≡ k + h.0 = get_or-range_with_len k (end - k) h.0 0 d in
+      (target_of edges (k + h.0), own_edge (k + h.0) (omega arith) (omega (arith, d)), rw at at (h.2 0))
+
   -- the owner o put at the targets of the first m edges
   pub owner_none : {own : List ℕ} (o : ℕ) → length own ≡ 2048
       → Table own n (λ t. cond (edge_in edges k (jump_of edges k) t) o (get_or own t 0))
@@ -171,6 +179,19 @@ module _ (edges : List ℕ) (r : Rising edges) where
           let other = run.next at_end_lem in
           omega (arith, other, c.above end run.from at_end_lem, jumps_rise end i l h)
 
+  -- past a word that is no jmp, where no edge starts
+  pub cut_past : (memory : List ℕ) (n a k : ℕ) → ((i : ℕ) → i < edge_count edges → starts_at_no_jump memory n edges i ≡ false)
+      → is_jump (instr_at memory a) ≡ false → Cut edges a k → Cut edges (a + 1) k
+  cut_past memory n a k from e c =
+      record {
+        place = c.place;
+        below = λ i l. omega (arith, c.below i l);
+        above = λ i l h.
+            let other : jump_of edges i ≢ a = λ z.
+            true_false (not-false _ (or_right (leb n (jump_of edges i)) _ (from i h))) (ap (λ (x : ℕ). is_jump (instr_at memory x)) z ∙ e) in
+            omega (arith, c.above i l h, other);
+      }
+
   -- whether a has an edge
   pub run_none : (a k end : ℕ) → Cut edges a k → Run edges a k end → eqb end k ≡ not (has_edge edges a)
   unfolding has_edge
@@ -192,10 +213,10 @@ module _ (edges : List ℕ) (r : Rising edges) where
           ne_eqb end k ne
           ∙ sym (ap not (any_hit (λ i. eqb (jump_of edges i) a) (edge_count edges) k (omega (arith, run.upto)) (eq-eqb (jump_of edges k) a (run.mine k (omega arith) some))))
 
-  -- what the test of rule 9 says at a
-  pub lacks : (memory : List ℕ) (a k end : ℕ) (jump r : Bool) → Cut edges a k → Run edges a k end
-      → jump ≡ is_jump (instr_at memory a) → r ≡ (jump && eqb end k) → r ≡ lacks_edge memory edges a
-  lacks memory a k end jump r cut run ej er = er ∙ rw (ej, run_none a k end cut run)
+  -- what the test of rule 9 says at a jmp
+  pub lacks : (memory : List ℕ) (a k end : ℕ) → Cut edges a k → Run edges a k end → is_jump (instr_at memory a) ≡ true
+      → lacks_edge memory edges a ≡ eqb end k
+  lacks memory a k end cut run e = rw (e, run_none a k end cut run)
 
   -- a jump below b with an edge is below a, where no edge from k on starts below b
   pub cut_between : (n a b k : ℕ) → Cut edges a k → ((i : ℕ) → k ≤ i → i < edge_count edges → b ≤ jump_of edges i)

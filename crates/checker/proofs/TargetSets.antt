@@ -12,7 +12,8 @@ use borrow.Author.Tests.{eq-eqb, eqb-true}
 use lib.ListN.{length, get_or, set, length-set}
 use lib.Seq.{get_or-set_same, get_or-set_other}
 use Rattle.std.specs.Prelude.{Option, None, Some}
-use Rattle.lists.specs.Search.{count}
+use Rattle.std.specs.Option.{MatchOption, IsSomeAnd}
+use Rattle.lists.specs.Search.{count, first}
 use Rattle.lists.specs.Tables.{Table}
 use Rattle.lists.proofs.Bools.{and_left, and_right, both_true, true_false, refuted, upheld}
 use Rattle.lists.proofs.Search.{Clean, lowest_is, lowest_ext}
@@ -23,8 +24,8 @@ use Rattle.graph.specs.Passes.{Within}
 use Rattle.graph.proofs.Edges.{edge_at, edge_of, edge_below, id_hit}
 use Rattle.graph.proofs.Apart.{apart_one, one_apart}
 use Rattle.rising.specs.Rising.{Rising}
-use Rattle.checker.specs.Passes.{EdgesOf, Met, Put, Fits, Told, OwnedBy, Judged, SetPut, Overlapped, found}
-use Rattle.checker.proofs.Places.{found_at, found_none, none_clean}
+use Rattle.checker.specs.Passes.{EdgesOf, Met, Put, Fits, Told, OwnedBy, Judged, SetPut, Overlapped}
+use Rattle.lists.proofs.First.{first_at, first_none, first_clean}
 use Rattle.checker.proofs.Listed.{edge_listed, listed_destination}
 use Rattle.checker.proofs.Runs.{lower_before, own_edge}
 
@@ -317,21 +318,6 @@ module _ (edges : List ℕ) (n : ℕ) (w : Within edges n) where
 
   -- ---- from the first set to the last
 
-  -- nothing met, nobody owns an address
-  pub put_none : (own size : List ℕ) → Table own n (λ _. n) → length size ≡ 2048 → Put edges n 0 own size
-  put_none own size h e =
-      record {
-        own_length = h.size;
-        size_length = e;
-        met = record {
-          taken = λ t l ne. absurd (ne (h.each t l));
-          held = λ j t l. absurd (omega arith);
-          one = λ i j t l. absurd (omega arith);
-          contested = λ t l z. absurd (omega (arith, z, h.each t l));
-        };
-        sizes = λ j l. absurd (omega arith);
-      }
-
   -- no jump with an edge from a to b
   pub put_skip : (own size : List ℕ) (a b : ℕ) → a ≤ b → ((j t : ℕ) → j < b → is_edge edges j t ≡ true → j < a) → Put edges n a own size
       → Put edges n b own size
@@ -360,20 +346,32 @@ module _ (edges : List ℕ) (n : ℕ) (w : Within edges n) where
         one_apart edges n j (λ i l a b ja ia. met.one j i a (edge_below edges n w j a ja).0 l ja ia (none a ja))
 
     -- the first edge with a contested target starts at the lowest jump that breaks the rule
-    pub first_broken_lem : Rising edges → (k : ℕ) → k < edge_count edges → ((i : ℕ) → i < k → get_or own (target_of edges i) 0 ≢ n + 1)
-        → get_or own (target_of edges k) 0 ≡ n + 1 → Some (jump_of edges k) ≡ found (overlaps edges n) n
+    first_broken_lem : Rising edges → (k : ℕ) → k < edge_count edges → ((i : ℕ) → i < k → get_or own (target_of edges i) 0 ≢ n + 1)
+        → get_or own (target_of edges k) 0 ≡ n + 1 → Some (jump_of edges k) ≡ first (overlaps edges n) n
     first_broken_lem r k l none e =
-        found_at (overlaps edges n) n (jump_of edges k) (w.jumps k l)
+        first_at (overlaps edges n) n (jump_of edges k) (w.jumps k l)
         (λ j q. uncontested_kept j λ t h z.
         let v = edge_of edges n j t h in
         none v.0 (lower_before edges r v.0 k v.1 (omega (arith, v.2, q))) (ap (λ (u : ℕ). get_or own u 0) v.3 ∙ z))
         (contested_broken (jump_of edges k) (target_of edges k) (edge_at edges n k l) e)
 
-    pub none_broken : ((i : ℕ) → i < edge_count edges → get_or own (target_of edges i) 0 ≢ n + 1) → None ≡ found (overlaps edges n) n
+    pub none_broken : ((i : ℕ) → i < edge_count edges → get_or own (target_of edges i) 0 ≢ n + 1) → None ≡ first (overlaps edges n) n
     none_broken none =
-        found_none (overlaps edges n) n
+        first_none (overlaps edges n) n
         (λ j q. uncontested_kept j λ t h z.
         let v = edge_of edges n j t h in none v.0 v.1 (ap (λ (u : ℕ). get_or own u 0) v.3 ∙ z))
+
+    -- what a search for that edge tells, where At is what is known of the jump it is taken to
+    pub contested_told : {At : ℕ → ℕ → Type 0} → Rising edges → (m : ℕ) → m ≡ edge_count edges → (o r : Option ℕ)
+        → MatchOption o ((i : ℕ) → 0 ≤ i → i < m → get_or own (target_of edges i) 0 ≢ n + 1)
+        (λ k. (0 ≤ k) × (k < m) × (get_or own (target_of edges k) 0 ≡ n + 1)
+        × ((i : ℕ) → 0 ≤ i → i < k → get_or own (target_of edges i) 0 ≢ n + 1))
+        → MatchOption o (r ≡ None) (λ k. IsSomeAnd r (At k)) → ((k j : ℕ) → At k j → j ≡ jump_of edges k)
+        → r ≡ first (overlaps edges n) n
+    contested_told s m l None r h e at = e ∙ none_broken (λ i q. h i (omega arith) (omega arith))
+    contested_told s m l (Some k) None h e at = absurd e
+    contested_told s m l (Some k) (Some j) h e at =
+        ap Some (at k j e) ∙ first_broken_lem s k (omega (arith, h.1)) (λ i q. h.3 i (omega arith) q) h.2
 
     -- where no jump breaks it, each destination is owned by its ID, and nobody owns another address
     owned : Clean (overlaps edges n) n → (k : ℕ) → k < edge_count edges → get_or own (target_of edges k) 0 ≡ id_of edges n (jump_of edges k)
@@ -394,6 +392,6 @@ module _ (edges : List ℕ) (n : ℕ) (w : Within edges n) where
             let v = met.taken t l ne in
             absurd (true_false (listed_destination edges v.0 t (edge_listed edges v.0 t v.2)) d)
 
-    pub overlapped : (r : Option ℕ) → r ≡ found (overlaps edges n) n → Overlapped r edges n own
+    pub overlapped : (r : Option ℕ) → r ≡ first (overlaps edges n) n → Overlapped r edges n own
     overlapped r e =
-        record { is = e; owners = λ l. record { within = w; held = owned (none_clean (overlaps edges n) n (sym l ∙ e)); free = free } }
+        record { is = e; owners = λ l. record { within = w; held = owned (first_clean (overlaps edges n) n (sym l ∙ e)); free = free } }

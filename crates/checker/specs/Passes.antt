@@ -1,12 +1,13 @@
 -- What the checker's passes over rising edges know, and leave in their arrays. Contracts of private functions cite these; nothing that
 -- is promised outside does.
-use Rattle.std.specs.Prelude.{ℕ, ◌+◌, ◌-◌, ◌<◌, ◌≤◌, ◌≡◌, ◌⊎◌, ◌≢◌, Bool, true, false, List, length, get_or, Option, None, find}
-use Rattle.std.specs.List.{range_with_len}
-use Rattle.lists.specs.Search.{count}
+use Rattle.std.specs.Prelude.{ℕ, ◌+◌, ◌-◌, ◌<◌, ◌≤◌, ◌≡◌, ◌⊎◌, ◌≢◌, Bool, true, false, not, ◌&&◌, ◌||◌, eqb, List, length, get_or, Option, None}
+use Rattle.lists.specs.Search.{count, first}
 use Rattle.graph.specs.Claim.{edge_count, jump_of, target_of, is_edge, id_of}
 use Rattle.graph.specs.Rules.{starts_at_no_jump, lacks_edge, overlaps}
 use Rattle.graph.specs.Passes.{Sized, Within, Owned}
 use Rattle.rising.specs.Rising.{not_rising}
+use Rattle.isa.specs.declared.Technique.{Technique}
+use Rattle.guards.specs.Sequences.{jump_guard, ends_at}
 
 -- memory and edges that rules 6 to 8 and 18 passed
 pub record Claimed (memory : List ℕ) (n : ℕ) (edges : List ℕ) : Type 0 where
@@ -15,13 +16,17 @@ pub record Claimed (memory : List ℕ) (n : ℕ) (edges : List ℕ) : Type 0 whe
   pub from_jumps : (k : ℕ) → k < edge_count edges → starts_at_no_jump memory n edges k ≡ false
   pub rising : (k : ℕ) → k < edge_count edges → not_rising edges k ≡ false
 
--- the first of the numbers below n that passes the test, as a search of them finds it
-unfoldable pub found : (ℕ → Bool) → ℕ → Option ℕ
-found test n = find test (range_with_len 0 n)
-
 -- rule 9 passed
 abbrev pub Leaving : List ℕ → ℕ → List ℕ → Type 0
 Leaving memory n edges = (a : ℕ) → a < n → lacks_edge memory edges a ≡ false
+
+-- edge k is the first of its jump
+abbrev pub is_first : List ℕ → ℕ → Bool
+is_first edges k = eqb k 0 || not (eqb (jump_of edges (k - 1)) (jump_of edges k))
+
+-- edge k is the first of its jump, and the sequence for its target does not end at that jump
+abbrev pub starts_bare : Technique → List ℕ → ℕ → List ℕ → ℕ → Bool
+starts_bare t memory n edges k = is_first edges k && not (ends_at memory (jump_guard t n (target_of edges k)) (jump_of edges k))
 
 -- the edges from k on that start at j end at the edge `end`
 pub record Run (edges : List ℕ) (j k end : ℕ) : Type 0 where
@@ -92,11 +97,5 @@ pub record AllPut (r : Bool) (edges : List ℕ) (n : ℕ) (own : List ℕ) : Typ
 
 -- rule 10 tested, and where it passed, the owners
 pub record Overlapped (r : Option ℕ) (edges : List ℕ) (n : ℕ) (own : List ℕ) : Type 0 where
-  pub is : r ≡ found (overlaps edges n) n
+  pub is : r ≡ first (overlaps edges n) n
   pub owners : r ≡ None → Owned edges n own
-
--- the rules about the graph passed, and the owners
-pub record GraphKept (memory : List ℕ) (n : ℕ) (edges own : List ℕ) : Type 0 where
-  pub claimed : Claimed memory n edges
-  pub leaving : Leaving memory n edges
-  pub owned : Owned edges n own

@@ -1,19 +1,21 @@
--- The rules of `Verdicts.antt` from one on, which the private steps of `check` and `check_claim` answer one after the other.
-use Rattle.std.specs.Prelude.{ℕ, List, [], ◌∷◌}
-use Rattle.answers.specs.declared.Refusal.{Refusal}
+-- The rules of `Verdicts.antt` in three parts: 6, 7, 8 and 18; 9 and 10; and the rest. The private steps of `check` and `check_claim`
+-- answer them one after the other.
+use Rattle.std.specs.Prelude.{ℕ, List, [], ◌++◌, take, drop}
 use Rattle.isa.specs.declared.Technique.{Technique}
-use Rattle.graph.specs.Rules.{lacks_edge, overlaps}
-use Rattle.checker.specs.Verdicts.{Rule, rule_per_address, graph_rules, label_rules, guard_rules}
+use Rattle.checker.specs.Verdicts.{Rule, claim_rules, label_rules, guard_rules}
 
+-- those that make a claim, 6, 7, 8 and 18
+abbrev pub to_claim : List ℕ → ℕ → List ℕ → List Rule
+to_claim memory n edges = take 4 (claim_rules memory n edges [])
+
+-- those that make a graph of it, 9 and 10
+abbrev pub to_graph : List ℕ → ℕ → List ℕ → List Rule
+to_graph memory n edges = drop 4 (claim_rules memory n edges [])
+
+-- the rest
 abbrev pub from_labels : Technique → List ℕ → ℕ → List ℕ → List Rule
 from_labels t memory n edges = label_rules memory n edges (guard_rules t memory n edges)
 
--- the rules about the graph alone
-abbrev pub from_sets : List ℕ → ℕ → List ℕ → List Rule
-from_sets memory n edges =
-    rule_per_address Refusal.JumpWithoutEdge n (lacks_edge memory edges)
-    ∷ rule_per_address Refusal.TargetSetsOverlap n (overlaps edges n)
-    ∷ []
-
-abbrev pub from_edges : List ℕ → ℕ → List ℕ → List Rule
-from_edges memory n edges = graph_rules memory n edges []
+-- those that make a graph, and the rest
+unfoldable pub from_sets : Technique → List ℕ → ℕ → List ℕ → List Rule
+from_sets t memory n edges = to_graph memory n edges ++ from_labels t memory n edges

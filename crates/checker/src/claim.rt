@@ -3,8 +3,8 @@ ghost use Rattle.std.specs.Prelude.{◌≡◌, ◌<◌, ◌≤◌, ◌&&◌};
 ghost use Rattle.isa.specs.Words.{known};
 ghost use Rattle.isa.specs.Instructions.{instr_at, is_kind};
 ghost use Rattle.graph.specs.Claim.{edge_count, jump_of, target_of};
-ghost use Rattle.graph.specs.Passes.{Sized, Is};
-ghost use Rattle.checker.specs.Passes.{Claimed, Run};
+ghost use Rattle.graph.specs.Passes.{Sized, Is, Owned, owner_of};
+ghost use Rattle.checker.specs.Passes.{Claimed, Leaving, Run, is_first};
 
 use crate::edges::{jump_number, target_number};
 use isa::{Kind, is_a};
@@ -28,7 +28,8 @@ impl Code<'_> {
     }
 }
 
-// The same with edges: 7, 8 and 18 have passed. Edges that rise stand side by side where they start at one jump.
+// The same with edges: 7, 8 and 18 have passed. Edges that rise stand side by side where they start at one jump. The technique
+// stays a parameter beside it: `check_claim` has none, and of a struct of both each clause would say `program.claim.code.memory.now`.
 #[derive(Clone, Copy)]
 pub(crate) struct Claim<'a> {
     pub(crate) code: Code<'a>,
@@ -44,7 +45,8 @@ impl Claim<'_> {
         self.edges.len() / 2
     }
 
-    // The two ends of an edge.
+    // The two ends of an edge. An index is asked at each call: no struct can hold it. `rewrite` has its own: shared, they would be public,
+    // and public functions have no `requires` (a rule of the project).
     pub(crate) fn jump(&self, k: usize) -> usize
         requires { k < edge_count self.now.edges.now }
         ensures { Is result (jump_of self.now.edges.now k) self.now.code.n }
@@ -59,7 +61,15 @@ impl Claim<'_> {
         target_number(self.edges, k)
     }
 
-    // Where the edges from k on that start at j end: the first that starts elsewhere, or their number.
+    // Whether edge k is the first of its jump.
+    pub(crate) fn is_first(&self, k: usize) -> bool
+        requires { k < edge_count self.now.edges.now }
+        ensures { result ≡ is_first self.now.edges.now k }
+    {
+        k == 0 || self.jump(k - 1) != self.jump(k)
+    }
+
+    // Where the edges from k on that start at j end.
     pub(crate) fn run_end(&self, k: usize, j: usize) -> usize
         requires { k ≤ edge_count self.now.edges.now }
         ensures { Run self.now.edges.now j k result }
@@ -68,5 +78,29 @@ impl Claim<'_> {
         (k..m)
             .find(|end| jump_number(self.edges, *end) != j)
             .unwrap_or(m)
+    }
+}
+
+// The same with the owner of each address: 9 and 10 have passed.
+#[derive(Clone, Copy)]
+pub(crate) struct Graph<'a> {
+    pub(crate) claim: Claim<'a>,
+    pub(crate) own: &'a [u16; 2048],
+    pub(crate) ghost leaving: { Leaving claim.code.memory.now claim.code.n claim.edges.now },
+    pub(crate) ghost owned: { Owned claim.edges.now claim.code.n own.now },
+}
+
+impl Graph<'_> {
+    // The ID that owns a, if any does.
+    pub(crate) fn owner_of(&self, a: usize) -> Option<usize>
+        requires { a < self.now.claim.code.n }
+        ensures { result ≡ owner_of self.now.claim.code.n self.now.own.now a }
+    {
+        let owner = usize::from(self.own[a]);
+        if owner < self.claim.code.n {
+            Some(owner)
+        } else {
+            None
+        }
     }
 }

@@ -2,7 +2,7 @@
 ghost use Rattle.std.specs.Prelude.{◌≡◌, ◌<◌};
 ghost use Rattle.graph.specs.Claim.{edge_count, jump_of, target_of};
 ghost use Rattle.graph.specs.Rules.{starts_at_no_jump, ends_outside_code, lacks_edge};
-ghost use Rattle.checker.specs.Passes.{found};
+ghost use Rattle.lists.specs.Search.{first};
 
 use crate::claim::{Claim, Code};
 use isa::Kind;
@@ -23,9 +23,9 @@ pub(crate) fn target_number(edges: &[u16], k: usize) -> usize
 }
 
 // Rule 7: the first edge that starts where no jmp of the code is.
-#[tactic(auto, unfolding(crate::specs::Passes::found))]
+#[tactic(auto, unfolding(lists::specs::Search::first))]
 pub(crate) fn first_from_no_jump(code: &Code<'_>, edges: &[u16]) -> Option<usize>
-    ensures { result ≡ found (starts_at_no_jump code.now.memory.now code.now.n edges.now) (edge_count edges.now) }
+    ensures { result ≡ first (starts_at_no_jump code.now.memory.now code.now.n edges.now) (edge_count edges.now) }
 {
     (0..edges.len() / 2).find(|k| starts_at_no_jump(code, edges, *k))
 }
@@ -39,22 +39,26 @@ fn starts_at_no_jump(code: &Code<'_>, edges: &[u16], k: usize) -> bool
 }
 
 // Rule 8: the first edge whose target is outside code.
-#[tactic(auto, unfolding(crate::specs::Passes::found))]
+#[tactic(auto, unfolding(lists::specs::Search::first))]
 pub(crate) fn first_outside_code(n: usize, edges: &[u16]) -> Option<usize>
-    ensures { result ≡ found (ends_outside_code n edges.now) (edge_count edges.now) }
+    ensures { result ≡ first (ends_outside_code n edges.now) (edge_count edges.now) }
 {
     (0..edges.len() / 2).find(|k| n <= target_number(edges, *k))
 }
 
-// Rule 9: the lowest jmp without an edge. Edge k is the first that starts at a or above.
-#[tactic(auto, using(lists::proofs::Search::clean_none, lists::proofs::Search::clean_more, crate::proofs::Places::found_at, crate::proofs::Places::found_none, crate::proofs::Runs::cut_none, crate::proofs::Runs::cut_run, crate::proofs::Runs::run_none, crate::proofs::Runs::lacks))]
+// Rule 9: the lowest jmp without an edge. Edge k is the first that starts at a or above; where no jmp is, none starts.
+#[tactic(auto, using(lists::proofs::First::first_none))]
 pub(crate) fn first_without_edge(claim: &Claim<'_>) -> Option<usize>
-    ensures { result ≡ found (lacks_edge claim.now.code.memory.now claim.now.edges.now) claim.now.code.n }
+    ensures { result ≡ first (lacks_edge claim.now.code.memory.now claim.now.edges.now) claim.now.code.n }
 {
     let mut k = 0;
+    // A `for`: the closure of a `find` would have to write k on the side.
     for a in 0..claim.code.n {
+        if !claim.code.is_at(Kind::Jmp, a) {
+            continue;
+        }
         let end = claim.run_end(k, a);
-        if claim.code.is_at(Kind::Jmp, a) & (end == k) {
+        if end == k {
             return Some(a);
         }
         k = end;

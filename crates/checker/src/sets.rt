@@ -8,16 +8,20 @@ ghost use Rattle.lists.specs.Tables.{Table};
 ghost use Rattle.graph.specs.Claim.{jump_of, target_of, is_edge};
 ghost use Rattle.graph.specs.Rules.{overlaps};
 ghost use Rattle.graph.specs.Passes.{Is};
-ghost use Rattle.checker.specs.Passes.{EdgesOf, Met, Put, OwnedBy, Judged, SetPut, AllPut, Overlapped, found};
+ghost use Rattle.checker.specs.Passes.{EdgesOf, Met, Put, OwnedBy, Judged, SetPut, AllPut, Overlapped};
+ghost use Rattle.lists.specs.Search.{first};
 
 use crate::claim::Claim;
+use crate::edges::jump_number;
 
 // Rule 10: the lowest jump whose target set meets another's and differs from it; where there is none, `own` has each address's owner.
 #[tactic(auto, using(crate::proofs::TargetSets::none_broken, crate::proofs::TargetSets::overlapped))]
 pub(crate) fn first_overlap(claim: &Claim<'_>, own: &mut [u16; 2048]) -> Option<usize>
-    requires { Table own.old claim.now.code.n (λ _. claim.now.code.n) }
     ensures { Overlapped result claim.now.edges.now claim.now.code.n own.new }
 {
+    // Nobody owns an address yet. Only the first n are filled: a small program is not to wait for the rest.
+    let n = claim.code.n;
+    own[..n].fill(n as u16);
     let mut size = [0u16; 2048];
     if put_sets(claim, own, &mut size) {
         return None;
@@ -26,7 +30,7 @@ pub(crate) fn first_overlap(claim: &Claim<'_>, own: &mut [u16; 2048]) -> Option<
 }
 
 // Puts every set in, and tells whether all of them fit.
-#[tactic(auto, using(lists::proofs::Bools::and_left, lists::proofs::Bools::and_right, crate::proofs::Runs::run_at, crate::proofs::Runs::run_some, crate::proofs::Runs::cut_none, crate::proofs::Runs::cut_at, crate::proofs::Runs::cut_run, crate::proofs::Runs::cut_between, crate::proofs::Runs::jumps_rise, crate::proofs::Runs::edges_of, crate::proofs::TargetSets::put_none, crate::proofs::TargetSets::put_skip))]
+#[tactic(auto, using(crate::proofs::Runs::cut_none))]
 fn put_sets(claim: &Claim<'_>, own: &mut [u16; 2048], size: &mut [u16; 2048]) -> bool
     requires { Table own.old claim.now.code.n (λ _. claim.now.code.n) × (length size.old ≡ 2048) }
     ensures { AllPut result claim.now.edges.now claim.now.code.n own.new }
@@ -68,7 +72,6 @@ impl TargetSet<'_> {
     }
 
     // Puts it in, and tells whether it fits: one that was met is there already, a new one is put in, and one that clashes is contested.
-    #[tactic(auto, using(crate::proofs::TargetSets::told, crate::proofs::TargetSets::put_broken, crate::proofs::TargetSets::put_new, crate::proofs::TargetSets::put_met))]
     fn put(&self, own: &mut [u16; 2048], size: &mut [u16; 2048]) -> bool
         requires { Put self.now.claim.edges.now self.now.claim.code.n (jump_of self.now.claim.edges.now self.now.first) own.old size.old }
         ensures { SetPut result self.now.claim.edges.now self.now.claim.code.n self.now.first own.old own.new size.new }
@@ -87,7 +90,7 @@ impl TargetSet<'_> {
     }
 
     // Whether it is new, or one that was met: all its addresses nobody's, or all its ID's, and as many.
-    #[tactic(auto, using(crate::proofs::TargetSets::told, crate::proofs::TargetSets::unlike_broken, crate::proofs::TargetSets::new_fits, crate::proofs::TargetSets::met_judged))]
+    #[tactic(auto, using(crate::proofs::TargetSets::met_judged))]
     fn fits(&self, own: &[u16; 2048], size: &[u16; 2048]) -> bool
         requires { Put self.now.claim.edges.now self.now.claim.code.n (jump_of self.now.claim.edges.now self.now.first) own.now size.now }
         ensures { Judged result self.now.claim.edges.now self.now.claim.code.n self.now.first own.now size.now }
@@ -103,20 +106,12 @@ impl TargetSet<'_> {
         (owner == id as u16) & (size[id] == (self.end - self.first) as u16)
     }
 
-    #[tactic(auto, using(crate::proofs::Runs::stretch_none, crate::proofs::Runs::stretch_more, crate::proofs::Runs::own_edge, crate::proofs::Runs::all_targets))]
     fn owned_by(&self, owner: u16, own: &[u16; 2048]) -> bool
         ensures { OwnedBy result self.now.claim.edges.now (jump_of self.now.claim.edges.now self.now.first) owner own.now }
     {
-        for i in self.first..self.end {
-            let t = self.claim.target(i);
-            if own[t] != owner {
-                return false;
-            }
-        }
-        true
+        (self.first..self.end).all(|i| own[self.claim.target(i)] == owner)
     }
 
-    #[tactic(auto, using(crate::proofs::Runs::owner_none, crate::proofs::Runs::owner_more, crate::proofs::Runs::owner_all))]
     fn put_owner(&self, owner: u16, own: &mut [u16; 2048])
         requires { length own.old ≡ 2048 }
         ensures { Table own.new self.now.claim.code.n (λ t. cond (is_edge self.now.claim.edges.now (jump_of self.now.claim.edges.now self.now.first) t) owner (get_or own.old t 0)) }
@@ -129,17 +124,12 @@ impl TargetSet<'_> {
 }
 
 // The jump of the first edge with a contested target, which is the lowest such jump.
-#[tactic(auto, using(crate::proofs::Runs::stretch_none, crate::proofs::Runs::stretch_more, crate::proofs::TargetSets::first_broken_lem, crate::proofs::TargetSets::none_broken))]
 fn first_contested(claim: &Claim<'_>, own: &[u16; 2048]) -> Option<usize>
     requires { Met claim.now.edges.now claim.now.code.n claim.now.code.n own.now }
-    ensures { result ≡ found (overlaps claim.now.edges.now claim.now.code.n) claim.now.code.n }
+    ensures { result ≡ first (overlaps claim.now.edges.now claim.now.code.n) claim.now.code.n }
 {
     let contested = (claim.code.n + 1) as u16;
-    for k in 0..claim.count() {
-        let t = claim.target(k);
-        if own[t] == contested {
-            return Some(claim.jump(k));
-        }
-    }
-    None
+    (0..claim.count())
+        .find(|k| own[claim.target(*k)] == contested)
+        .map(|k| jump_number(claim.edges, k))
 }

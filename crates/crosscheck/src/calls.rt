@@ -11,6 +11,7 @@ use crate::words::{Kind, ONES};
 use answers::Refusal;
 use isa::Technique;
 use machine::{Halt, Ran, State, Stop};
+use std::array;
 
 // Forty calls on a state with random registers.
 pub(crate) fn hold_list(course: &mut Course, code: Code) {
@@ -34,11 +35,7 @@ pub(crate) fn hold_list(course: &mut Course, code: Code) {
 }
 
 fn random_registers(len: usize, random: &mut Random) -> [u64; 32] {
-    let mut registers = [0u64; 32];
-    for r in 0..32 {
-        registers[r] = random.word(len);
-    }
-    registers
+    array::from_fn(|_| random.word(len))
 }
 
 // A list of calls under way, on the code that was checked.

@@ -49,14 +49,14 @@ impl Program {
         }
     }
 
-    // A word of the sequence that ends with some jmp or st is changed.
+    // A word of the sequence that ends with some jmp or st is changed; where there is none, at times the first word of code.
     fn damage_guard(&mut self, random: &mut Random) {
         let kind = if random.once_in(2) {
             Kind::Jmp
         } else {
             Kind::St
         };
-        let end = self.some_word(kind, random);
+        let end = self.some_word(kind, random).unwrap_or(0);
         if let Some(address) = end.checked_sub(random.below(10)) {
             self.change_field(address, random);
         }
@@ -69,14 +69,13 @@ impl Program {
         self.put_word(address, u64::from(changed));
     }
 
-    // The first address from a random one on, and round the end, that holds a word of this kind; else 0.
-    fn some_word(&self, kind: Kind, random: &mut Random) -> usize {
+    // The first address from a random one on, and round the end, that holds a word of this kind.
+    fn some_word(&self, kind: Kind, random: &mut Random) -> Option<usize> {
         let n = self.size.n;
         let start = random.below(n);
         (start..n)
             .chain(0..start)
             .find(|address| self.kind(*address) == Some(kind))
-            .unwrap_or(0)
     }
 
     // A branch, of a guard or not, goes elsewhere, at times outside code.
@@ -88,8 +87,7 @@ impl Program {
             Kind::Jd
         };
         let target = random.below(n.wrapping_add(n / 8).wrapping_add(2));
-        let place = self.some_word(kind, random);
-        if self.kind(place) == Some(kind) {
+        if let Some(place) = self.some_word(kind, random) {
             let f = Fields::from(self.word(place));
             self.put_word(place, word(kind, f.a, f.b, 0, low(target)));
         }

@@ -19,6 +19,7 @@ pub(crate) enum Item {
     Label(usize),
 }
 
+// The first n items are the plan, which grows one by one: there is no heap, and a slice does not grow.
 #[derive(Drop)]
 pub(crate) struct Plan {
     items: [Item; 512],

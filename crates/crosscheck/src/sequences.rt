@@ -53,6 +53,7 @@ impl Guard {
 }
 
 // How many of these words are the range test.
+
 pub(crate) const RANGE_TEST: usize = 4;
 
 // How many of these words a jump's sequence goes without.
@@ -65,19 +66,16 @@ pub(crate) fn before_jump_guard(technique: Technique) -> usize
     }
 }
 
-// How many words of a jump's sequence come after its first.
+// How many words of a jump's sequence come after its first: the nine, but for those that it goes without.
 pub(crate) fn after_jump_first(technique: Technique) -> usize {
-    match technique {
-        Technique::Plain => 5,
-        Technique::MemoryGuards => 9,
-    }
+    9 - before_jump_guard(technique)
 }
 
 // The same of a store's sequence, if a store needs one.
 pub(crate) fn after_store_first(technique: Technique) -> Option<usize> {
     match technique {
         Technique::Plain => None,
-        Technique::MemoryGuards => Some(5),
+        Technique::MemoryGuards => Some(RANGE_TEST + 1),
     }
 }
 

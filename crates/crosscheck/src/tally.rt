@@ -1,3 +1,4 @@
+// What is counted as programs are compared and calls are made, and the lines that tell it.
 use crate::second::Fault;
 use std::fmt;
 

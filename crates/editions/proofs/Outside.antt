@@ -2,14 +2,14 @@
 -- look at nothing else of such an edge; where they pass, no number was cut.
 use mathlib.Core.Path.{◌≡◌, refl, sym, ap, ◌∙◌}
 use mathlib.Core.Bool.{Bool, true, not, ◌||◌}
-use mathlib.Core.List.{List, [], ◌∷◌}
+use mathlib.Core.List.{List, [], ◌∷◌, ◌++◌}
 use Prim.Native.Nat.{ℕ, zero, suc, ◌+◌, ◌*◌, ◌/◌, ◌%◌, ◌≤◌, ◌<◌}
 use native.Mathlib.Omega.{arith}
 use native.Mathlib.Decide.{dec_lt}
 use native.Mathlib.Numerals.{add-one}
 use lib.Dec.{leb, eqb}
-use lib.ListN.{length, get_or, drop, set, length-set, drop_of_length-le}
-use lib.Seq.{ext_get_or, drop-cons, sets}
+use lib.ListN.{length, get_or, take, drop, set, length-set, drop_of_length-le}
+use lib.Seq.{ext_get_or, drop-cons, take_at, sets}
 use borrow.Author.Tests.{lt-ltb, le-ltb, le-leb, eqb-true}
 use Rattle.lists.specs.Search.{lowest}
 use Rattle.lists.specs.Places.{put_over}
@@ -18,7 +18,7 @@ use Rattle.lists.proofs.Search.{lowest_ext, clean_of}
 use Rattle.answers.specs.Shape.{memory_shaped, edges_shaped, call_shaped}
 use Rattle.answers.specs.declared.Refusal.{Refusal}
 use Rattle.answers.specs.declared.Place.{Place}
-use Rattle.answers.specs.Faults.{fault}
+use Rattle.answers.specs.Faults.{fault, Verdict}
 use Rattle.std.specs.Prelude.{Err}
 use Rattle.isa.specs.declared.Technique.{Technique}
 use Rattle.isa.specs.Instructions.{instr_at, is_jump}
@@ -142,6 +142,14 @@ module _ (t : Technique) (memory : List ℕ) (n : ℕ) (edges : List ℕ) (shape
           ∙ ap (λ (k : ℕ). Err (fault Refusal.TargetOutsideCode (Place.Edge k))) same_eight
           ∙ sym (by_eight t memory n edges shape (omega arith) q)
       go (no p) (no q) = ap (verdict_of t memory n) (nothing_cut (in_code t memory n edges shape (omega arith) (omega arith)))
+
+-- the check of the numbers that were put at the front of a place
+pub cut_checked : (t : Technique) (memory : List ℕ) (n : ℕ) (edges rest : List ℕ) {low : List ℕ} {r : Verdict}
+    → call_shaped (length memory) n (length edges) ≡ true → low ≡ cut_all edges ++ rest
+    → r ≡ verdict_of t memory n (take (length edges) low) → r ≡ verdict_of t memory n edges
+cut_checked t memory n edges rest {low} shape put h =
+    let front : take (length edges) low ≡ cut_all edges = ap (take (length edges)) put ∙ take_at (cut_all edges) rest (length edges) (length_cut edges) in
+    h ∙ ap (verdict_of t memory n) front ∙ cut_verdict t memory n edges shape
 
 -- ---- the loop: what is still to be stored makes the whole
 

@@ -1,6 +1,18 @@
--- What only the private functions of this crate promise each other: edge numbers cut to 16 bits. An address above 65,535 is outside code,
--- and 65,535 is outside code too.
-use Rattle.std.specs.Prelude.{ℕ, cond, List, [], ◌∷◌, ltb}
+-- What only the private functions of this crate promise each other: a parcel put as one of the other edition, and edge numbers cut to
+-- 16 bits. An address above 65,535 is outside code, and 65,535 is outside code too.
+use Rattle.std.specs.Prelude.{ℕ, ◌≡◌, cond, List, [], ◌∷◌, length, ltb, Ok, Err}
+use Rattle.lists.specs.Places.{shorter}
+use Rattle.answers.specs.declared.Refusal.{Refusal}
+use Rattle.answers.specs.declared.Place.{Place}
+use Rattle.answers.specs.Faults.{fault}
+use Rattle.parcel.specs.Parcel.{Written, read_of, after_write}
+use Rattle.editions.specs.Converters.{bytes_for}
+
+-- what putting the parcel s, whose edge numbers have w bytes, as one with v over the place p comes to
+pub record ConvertedSo (w v : ℕ) (s p : List ℕ) (answer : Written) (p' : List ℕ) : Type 0 where
+  pub answers : answer
+      ≡ cond (shorter p (length (bytes_for v (read_of w s)))) (Err (fault Refusal.PlaceTooShort Place.Nowhere)) (Ok (length (bytes_for v (read_of w s))))
+  pub bytes : p' ≡ after_write answer (bytes_for v (read_of w s)) p
 
 abbrev pub cut_of : ℕ → ℕ
 cut_of x = cond (ltb x 65536) x 65535

@@ -4,68 +4,67 @@
 mod cut;
 mod numbers;
 
-ghost use Rattle.std.specs.Prelude.{◌≡◌};
+ghost use Rattle.std.specs.Prelude.{◌≡◌, ◌⊎◌, ◌≤◌, Ok};
 ghost use Rattle.checker.specs.Verdicts.{verdict_of};
+ghost use Rattle.parcel.specs.Parcel.{read_of, counts_of};
 ghost use Rattle.editions.specs.Converters.{WidenedSo, NarrowedSo};
+ghost use Rattle.editions.specs.Inside.{ConvertedSo};
 
 use answers::{Fault, Place, Refusal, Verdict};
 use isa::Technique;
-use parcel::Edition;
+use parcel::{Counts, Edition};
 
 // Puts a parcel of the first edition as one of the second.
-#[tactic(auto, using(crate::proofs::Converted::counted_long))]
+#[tactic(auto, using(crate::proofs::Converted::widened))]
 pub fn widen(parcel: &[u8], wide: &mut [u8]) -> Result<usize, Fault>
     ensures { WidenedSo parcel.now wide.old result wide.new }
 {
     let found = parcel::counts(Edition::First, parcel)?;
-    let front = 8 + found.code * 8;
-    let back = 4 + found.data * 8;
-    if wide.len() < front + found.edges * 8 + back {
-        return Err(Fault::nowhere(Refusal::PlaceTooShort));
-    }
-    numbers::copy(parcel, 0, front, wide, 0);
-    numbers::widen_edges(parcel, front, found.edges, wide, front);
-    numbers::copy(
-        parcel,
-        front + found.edges * 4,
-        back,
-        wide,
-        front + found.edges * 8,
-    );
-    Ok(front + found.edges * 8 + back)
+    convert::<2, 4>(parcel, found, wide)
 }
 
 // Puts a parcel of the second edition as one of the first, if no address is above 65,535.
-#[tactic(auto, using(crate::proofs::Converted::counted_long))]
+#[tactic(auto, using(crate::proofs::Converted::counted_long, crate::proofs::Converted::too_wide))]
 pub fn narrow(wide: &[u8], parcel: &mut [u8]) -> Result<usize, Fault>
     ensures { NarrowedSo wide.now parcel.old result parcel.new }
 {
     let found = parcel::counts(Edition::Second, wide)?;
-    let front = 8 + found.code * 8;
-    let back = 4 + found.data * 8;
-    if let Some(edge) = numbers::first_wide(wide, front, found.edges) {
+    let numbers = &wide[8 + found.code * 8..];
+    if let Some(edge) = numbers::first_wide(numbers, found.edges) {
         return Err(Fault {
             refusal: Refusal::EdgeTooWide,
             place: Place::Edge(edge),
         });
     }
-    if parcel.len() < front + found.edges * 4 + back {
+    convert::<4, 2>(wide, found, parcel)
+}
+
+// Puts a parcel that was counted, with edge numbers of W bytes, as one with V, if the place is long enough.
+#[tactic(auto, using(crate::proofs::Converted::counted_long, crate::proofs::Converted::counted_twice, crate::proofs::Converted::convert_short))]
+fn convert<const W: usize, const V: usize>(
+    s: &[u8],
+    found: Counts,
+    to: &mut [u8],
+) -> Result<usize, Fault>
+    requires { (W ≡ 2 ⊎ V ≡ 2) × (2 ≤ W) × (W ≤ 4) × (2 ≤ V) × (V ≤ 4) × (Ok found ≡ counts_of (read_of W s.now)) }
+    ensures { ConvertedSo W V s.now to.old result to.new }
+{
+    let front = 8 + found.code * 8;
+    let read = front + found.edges * (2 * W);
+    let put = front + found.edges * (2 * V);
+    let back = 4 + found.data * 8;
+    if to.len() < put + back {
         return Err(Fault::nowhere(Refusal::PlaceTooShort));
     }
-    numbers::copy(wide, 0, front, parcel, 0);
-    numbers::narrow_edges(wide, front, found.edges, parcel, front);
-    numbers::copy(
-        wide,
-        front + found.edges * 8,
-        back,
-        parcel,
-        front + found.edges * 4,
-    );
-    Ok(front + found.edges * 4 + back)
+    numbers::copy(&s[..front], to, 0);
+    numbers::put_edges::<W, V>(&s[front..], found.edges, to, front);
+    numbers::copy(&s[read..], to, put);
+    Ok(put + back)
 }
 
 // `checker::check` on edge numbers of 32 bits. An address that 16 bits do not hold is outside code, and so is the one that is
 // put for it.
+#[tactic(auto, using(checker::proofs::Rules::broken_once), unfolding(checker::specs::Verdicts::verdict_of))]
 pub fn check_wide(technique: Technique, memory: &[u64], n: usize, edges: &[u32]) -> Verdict
     ensures { result ≡ verdict_of technique memory.now n edges.now }
 {

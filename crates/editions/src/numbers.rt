@@ -1,91 +1,86 @@
 // Numbers in bytes, low byte first, put as numbers of another width.
-// `s`, `at`, `to` and `start` go together through three functions: a part of a `&mut` slice that is lent on would make a contract speak of
-// two places, and as parameters each clause speaks of the whole.
-ghost use Rattle.std.specs.Prelude.{◌≡◌, ◌||◌, [], ◌∷◌, ◌+◌, ◌*◌, ◌≤◌, leb, length, take, drop};
+// `to` and `start` go together: a part of a `&mut` slice that is lent on would make a contract speak of two places, and as parameters
+// each clause speaks of the whole.
+ghost use Rattle.std.specs.Prelude.{◌≡◌, ◌⊎◌, ◌||◌, ◌+◌, ◌*◌, ◌≤◌, ◌<◌, leb, length, drop};
 ghost use Rattle.std.proofs.lemmas.List.Edits.{sets};
 ghost use Rattle.lists.specs.Search.{first};
-ghost use Rattle.parcel.specs.Bytes.{number_of, numbers_of, all_bytes_of};
+ghost use Rattle.parcel.specs.Bytes.{number_of, bytes_of, numbers_of, all_bytes_of};
 ghost use Rattle.editions.specs.Converters.{is_wide};
 
-// k bytes from at, as they are.
-pub(crate) fn copy(s: &[u8], at: usize, k: usize, to: &mut [u8], start: usize)
-    requires { (at + k ≤ length s.now) × (start + k ≤ length to.old) }
-    ensures { to.new ≡ sets to.old start (take k (drop at s.now)) }
+// The bytes, as they are, from start on.
+#[tactic(auto, using(lists::proofs::Places::put_part))]
+pub(crate) fn copy(s: &[u8], to: &mut [u8], start: usize)
+    requires { start + length s.now ≤ length to.old }
+    ensures { to.new ≡ sets to.old start s.now }
 {
-    to[start..start + k].copy_from_slice(&s[at..at + k]);
+    to[start..start + s.len()].copy_from_slice(s);
 }
 
-// The edges from at on, two numbers of two bytes each, as numbers of four. An edge is read whole before it is put, so that the
-// compiler can move it at once. Of the two directions each has its loop: one over both widths would move the bytes of a number one by
-// one, or take a cast as a parameter, and be no plainer.
-pub(crate) fn widen_edges(s: &[u8], at: usize, edges: usize, to: &mut [u8], start: usize)
-    requires { (at + edges * 4 ≤ length s.now) × (start + edges * 8 ≤ length to.old) }
-    ensures { to.new ≡ sets to.old start (all_bytes_of 4 (numbers_of 2 (edges * 2) (drop at s.now))) }
+// The first edges, two numbers of W bytes each, as numbers of V: the low two bytes of each, and zeros. An edge is read whole before it
+// is put, so that the compiler can move it at once.
+pub(crate) fn put_edges<const W: usize, const V: usize>(
+    s: &[u8],
+    edges: usize,
+    to: &mut [u8],
+    start: usize,
+)
+    requires { (W ≡ 2 ⊎ V ≡ 2) × (2 ≤ W) × (2 ≤ V) × (edges * (2 * W) ≤ length s.now) × (start + edges * (2 * V) ≤ length to.old) }
+    ensures { to.new ≡ sets to.old start (all_bytes_of V (numbers_of W (edges * 2) s.now)) }
 {
     for k in 0..edges {
-        let from = at + k * 4;
-        let a = s[from];
-        let b = s[from + 1];
-        let c = s[from + 2];
-        let d = s[from + 3];
-        put_four(to, start + k * 8, a, b, 0, 0);
-        put_four(to, start + k * 8 + 4, c, d, 0, 0);
+        let edge = &s[k * (2 * W)..];
+        let place = start + k * (2 * V);
+        let jump = half(edge);
+        let target = half(&edge[W..]);
+        put_half::<V>(to, place, jump);
+        put_half::<V>(to, place + V, target);
     }
 }
 
-// The edges from at on, two numbers of four bytes each, as numbers of two: the low halves.
-pub(crate) fn narrow_edges(s: &[u8], at: usize, edges: usize, to: &mut [u8], start: usize)
-    requires { (at + edges * 8 ≤ length s.now) × (start + edges * 4 ≤ length to.old) }
-    ensures { to.new ≡ sets to.old start (all_bytes_of 2 (numbers_of 4 (edges * 2) (drop at s.now))) }
+// Of the first edges, two numbers of four bytes each, the first with an address above 65,535.
+#[tactic(auto, unfolding(lists::specs::Search::first))]
+pub(crate) fn first_wide(s: &[u8], edges: usize) -> Option<usize>
+    requires { edges * 8 ≤ length s.now }
+    ensures { result ≡ first (is_wide (numbers_of 4 (edges * 2) s.now)) edges }
 {
-    for k in 0..edges {
-        let from = at + k * 8;
-        put_four(
-            to,
-            start + k * 4,
-            s[from],
-            s[from + 1],
-            s[from + 4],
-            s[from + 5],
-        );
+    (0..edges).find(|k| is_wide_at(s, edges, *k))
+}
+
+// Whether edge k of those has one.
+#[tactic(auto, using(crate::proofs::Converting::edge_wide))]
+fn is_wide_at(s: &[u8], edges: usize, k: usize) -> bool
+    requires { (edges * 8 ≤ length s.now) × (k < edges) }
+    ensures { result ≡ is_wide (numbers_of 4 (edges * 2) s.now) k }
+{
+    has_high_half(&s[k * 8..])
+}
+
+// Whether one of the first two numbers of four bytes is above 65,535: its high half is not 0.
+#[tactic(auto, using(crate::proofs::Converting::edge_high))]
+fn has_high_half(s: &[u8]) -> bool
+    requires { 8 ≤ length s.now }
+    ensures { result ≡ (leb 65536 (number_of 4 s.now) || leb 65536 (number_of 4 (drop 4 s.now))) }
+{
+    0 < u32::from(half(&s[2..])) + u32::from(half(&s[6..]))
+}
+
+// The number in the first two bytes.
+#[tactic(auto, using(crate::proofs::Converting::two_bytes))]
+fn half(s: &[u8]) -> u16
+    requires { 2 ≤ length s.now }
+    ensures { result ≡ number_of 2 s.now }
+{
+    u16::from_le_bytes([s[0], s[1]])
+}
+
+// A number of V bytes that has 16 bits: two bytes, and zeros. A `for`: with a `fill` of so few bytes widening takes four times as long.
+#[tactic(auto, using(parcel::proofs::Numbers::number_put, crate::proofs::Converting::zeros_start, crate::proofs::Converting::zeros_go_on, crate::proofs::Converting::zeros_end))]
+fn put_half<const V: usize>(s: &mut [u8], at: usize, x: u16)
+    requires { (2 ≤ V) × (at + V ≤ length s.old) }
+    ensures { s.new ≡ sets s.old at (bytes_of V x) }
+{
+    s[at..at + 2].copy_from_slice(&x.to_le_bytes());
+    for i in 2..V {
+        s[at + i] = 0;
     }
-}
-
-// Of the edges from at on, two numbers of four bytes each, the first with an address above 65,535.
-pub(crate) fn first_wide(s: &[u8], at: usize, edges: usize) -> Option<usize>
-    requires { at + edges * 8 ≤ length s.now }
-    ensures { result ≡ first (is_wide (numbers_of 4 (edges * 2) (drop at s.now))) edges }
-{
-    for k in 0..edges {
-        if has_high_half(s, at + k * 8) {
-            return Some(k);
-        }
-    }
-    None
-}
-
-// Whether one of the two numbers of four bytes from at is above 65,535: its high half is not 0.
-fn has_high_half(s: &[u8], at: usize) -> bool
-    requires { at + 8 ≤ length s.now }
-    ensures { result ≡ (leb 65536 (number_of 4 (drop at s.now)) || leb 65536 (number_of 4 (drop (at + 4) s.now))) }
-{
-    let jump = u16::from_le_bytes([s[at + 2], s[at + 3]]);
-    let target = u16::from_le_bytes([s[at + 6], s[at + 7]]);
-    0 < u32::from(jump) + u32::from(target)
-}
-
-fn put_four(s: &mut [u8], at: usize, a: u8, b: u8, c: u8, d: u8)
-    requires { at + 4 ≤ length s.old }
-    ensures { s.new ≡ sets s.old at (a ∷ b ∷ c ∷ d ∷ []) }
-{
-    put_pair(s, at, a, b);
-    put_pair(s, at + 2, c, d);
-}
-
-fn put_pair(s: &mut [u8], at: usize, x: u8, y: u8)
-    requires { at + 2 ≤ length s.old }
-    ensures { s.new ≡ sets s.old at (x ∷ y ∷ []) }
-{
-    s[at] = x;
-    s[at + 1] = y;
 }

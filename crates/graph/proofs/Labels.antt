@@ -1,13 +1,14 @@
 -- Rule 12: where every edge's target is owned by its jump's ID, the owner of an address says which label it must hold.
 use Prim.Native.Nat.{ℕ, ◌<◌, ◌≤◌}
 use mathlib.Core.Path.{◌≡◌, refl, sym, ap, ◌∙◌}
-use mathlib.Core.Bool.{Bool, true, false, not, ◌&&◌, ◌||◌, or-false}
+use mathlib.Core.Bool.{Bool, true, false, cond, not, ◌&&◌, ◌||◌, or-false}
 use mathlib.Core.Logic.{◌⊎◌, inl, inr}
 use Rattle.std.specs.Prelude.{Option, None, Some}
+use Rattle.std.specs.Option.{option_eq}
 use mathlib.Core.List.{List}
 use native.Mathlib.Omega.{arith}
-use borrow.Author.Tests.{eqb-true, le-leb, lt-leb, le-ltb, lt-ltb}
-use lib.Dec.{eqb}
+use borrow.Author.Tests.{eqb-true, le-ltb, lt-ltb}
+use lib.Dec.{eqb, ltb}
 use lib.ListN.{get_or}
 use Rattle.lists.specs.Search.{any}
 use Rattle.lists.proofs.Bools.{and_under}
@@ -15,7 +16,7 @@ use Rattle.lists.proofs.Search.{any_ext, any_witness, any_and}
 use Rattle.isa.specs.Instructions.{instr_at, label_number}
 use Rattle.graph.specs.Claim.{edge_count, jump_of, target_of, is_destination, id_of}
 use Rattle.graph.specs.Rules.{is_label, is_label_of, label_wrong}
-use Rattle.graph.specs.Passes.{Owned, label_amiss}
+use Rattle.graph.specs.Passes.{Owned, owner_of}
 use Rattle.graph.proofs.Edges.{edge_at, id_below, has_edge_lem}
 
 module _ (memory : List ℕ) (n : ℕ) (edges own : List ℕ) (h : Owned edges n own) where
@@ -46,13 +47,14 @@ module _ (memory : List ℕ) (n : ℕ) (edges own : List ℕ) (h : Owned edges n
   destined a l false e = inr (refl, omega (arith, h.free a l e))
 
   by_owner : (label : Option ℕ) (d : Bool) (o : ℕ) → ((d ≡ true) × (o < n)) ⊎ ((d ≡ false) × (n ≤ o))
-      → label_amiss label o n ≡ ((d && not (is_label_of label o)) || (is_label label && not d))
+      → not (option_eq eqb label (cond (ltb o n) (Some o) None)) ≡ ((d && not (is_label_of label o)) || (is_label label && not d))
   by_owner None d o (inl c) = rw (c.0, lt-ltb o n c.1)
   by_owner None d o (inr c) = rw (c.0, le-ltb o n c.1)
-  by_owner (Some w) d o (inl c) = rw (c.0, lt-leb n o c.1) (sym (or-false (not (eqb w o))))
-  by_owner (Some w) d o (inr c) = rw (c.0, le-leb n o c.1)
+  by_owner (Some w) d o (inl c) = rw (c.0, lt-ltb o n c.1) (sym (or-false (not (eqb w o))))
+  by_owner (Some w) d o (inr c) = rw (c.0, le-ltb o n c.1)
 
-  pub label_wrong_lem : (a : ℕ) → a < n → label_amiss (label_number (instr_at memory a)) (get_or own a 0) n ≡ label_wrong memory n edges a
+  pub label_wrong_lem : (a : ℕ) → a < n
+      → not (option_eq eqb (label_number (instr_at memory a)) (owner_of n own a)) ≡ label_wrong memory n edges a
   unfolding is_destination
   label_wrong_lem a l =
       let label = label_number (instr_at memory a) in

@@ -1,6 +1,6 @@
 -- What the checker's passes over the edges know and leave in their array. Contracts of private functions cite these; nothing that is
 -- promised outside does.
-use Rattle.std.specs.Prelude.{ℕ, ◌<◌, ◌≤◌, ◌≡◌, Bool, false, not, ◌&&◌, ◌||◌, List, length, get_or, eqb, ltb, leb, Option, None, Some}
+use Rattle.std.specs.Prelude.{ℕ, ◌<◌, ◌≤◌, ◌≡◌, Bool, false, cond, ◌&&◌, List, length, get_or, eqb, ltb, Option, None, Some}
 use Rattle.lists.specs.Search.{any}
 use Rattle.graph.specs.Claim.{edge_count, jump_of, target_of, is_destination, id_of}
 
@@ -33,7 +33,6 @@ pub record Owned (edges : List ℕ) (n : ℕ) (own : List ℕ) : Type 0 where
   pub held : (k : ℕ) → k < edge_count edges → get_or own (target_of edges k) 0 ≡ id_of edges n (jump_of edges k)
   pub free : (a : ℕ) → a < n → is_destination edges a ≡ false → get_or own a 0 ≡ n
 
--- rule 12 by the owner of the address: a label that is not its ID, or a label too many or too few
-abbrev pub label_amiss : Option ℕ → ℕ → ℕ → Bool
-label_amiss None owner n = ltb owner n
-label_amiss (Some w) owner n = leb n owner || not (eqb w owner)
+-- the ID that owns the address a, if any does
+abbrev pub owner_of : ℕ → List ℕ → ℕ → Option ℕ
+owner_of n own a = cond (ltb (get_or own a 0) n) (Some (get_or own a 0)) None

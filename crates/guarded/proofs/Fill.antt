@@ -14,7 +14,7 @@ use Rattle.isa.specs.Words.{exact, fields, fields_of, decode_of, encode_of}
 use Rattle.isa.specs.Instructions.{instr_at}
 use Rattle.isa.proofs.Words.{exact_back, exact_instruction}
 use Rattle.guards.specs.declared.Slot.{Slot}
-use Rattle.guards.specs.Sequences.{fields_agree, fits, stands_at}
+use Rattle.guards.specs.Sequences.{any_register_of, any_immediate_of, fields_agree, fits, stands_at}
 use Rattle.guards.specs.Patterns.{Form, Formed}
 use Rattle.guards.proofs.Fits.{filled_fields}
 use Rattle.guards.proofs.Forms.{free_fit, free_exact, free_short}
@@ -38,10 +38,10 @@ module _ (s : Slot) (form : Form s) (r w : ℕ) (register : r < 32) (short : w <
   given = fields Kind.Unknown 0 r 0 w
 
   abbrev parts : Fields
-  parts = filled_fields (fields_of s.instr) given s.any_register s.any_immediate
+  parts = filled_fields (fields_of s.instr) given (any_register_of s.free) (any_immediate_of s.free)
 
   fill_exact : exact parts ≡ true
-  fill_exact = free_exact s.instr s.any_register s.any_immediate given form (low s.any_register)
+  fill_exact = free_exact s.instr s.free given form (low (any_register_of s.free))
     where
       low : (b : Bool) → cond b r 0 < 32
       low true = register
@@ -50,14 +50,14 @@ module _ (s : Slot) (form : Form s) (r w : ℕ) (register : r < 32) (short : w <
   fill_fits : fits s (fill s r w) ≡ true
   unfolding fits
   fill_fits =
-      ap (λ (f : Fields). fields_agree (fields_of s.instr) f s.any_register s.any_immediate) (exact_back parts fill_exact)
-      ∙ free_fit (fields_of s.instr) given s.any_register s.any_immediate
+      ap (λ (f : Fields). fields_agree (fields_of s.instr) f (any_register_of s.free) (any_immediate_of s.free)) (exact_back parts fill_exact)
+      ∙ free_fit (fields_of s.instr) given (any_register_of s.free) (any_immediate_of s.free)
 
   fill_back : decode_of (encode_of (fill s r w)) ≡ fill s r w
   fill_back =
       let e = exact_back parts fill_exact in
       exact_instruction (fill s r w) (ap exact e ∙ fill_exact)
-      (subst (λ (f : Fields). f.w < 2 ^ 32) (sym e) (free_short s.instr s.any_register s.any_immediate given form short))
+      (subst (λ (f : Fields). f.w < 2 ^ 32) (sym e) (free_short s.instr s.free given form short))
 
 -- ---- all slots
 

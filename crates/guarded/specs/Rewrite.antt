@@ -9,7 +9,7 @@ use Rattle.isa.specs.Words.{fields, instr_of, fields_of, all_bits_set, encode_of
 use Rattle.isa.specs.Instructions.{instr_at, is_jump, is_store, is_branch}
 use Rattle.graph.specs.Claim.{edge_count, jump_of, target_of, is_destination, id_of}
 use Rattle.guards.specs.declared.Slot.{Slot}
-use Rattle.guards.specs.Sequences.{jump_guard, store_guard}
+use Rattle.guards.specs.Sequences.{any_register_of, any_immediate_of, jump_guard, store_guard}
 use Rattle.guarded.specs.Blocks.{start_of, laid}
 
 -- the technique has a guard for stores
@@ -42,8 +42,8 @@ new_length t bare n edges = map_of t bare edges n + 1
 abbrev pub fill : Slot → ℕ → ℕ → Instr
 fill s r w =
     instr_of
-    (fields (fields_of s.instr).kind (fields_of s.instr).a (cond s.any_register r (fields_of s.instr).b)
-    (fields_of s.instr).c (cond s.any_immediate w (fields_of s.instr).w))
+    (fields (fields_of s.instr).kind (fields_of s.instr).a (cond (any_register_of s.free) r (fields_of s.instr).b)
+    (fields_of s.instr).c (cond (any_immediate_of s.free) w (fields_of s.instr).w))
 
 -- a guard with its free places filled: r and w in its first word, the register `later` in the others
 abbrev pub filled : List Slot → ℕ → ℕ → ℕ → List Instr

@@ -15,14 +15,14 @@ use Rattle.isa.specs.Instructions.{instr_at}
 use Rattle.isa.proofs.Words.{instr_fields}
 use Rattle.isa.proofs.ByKind.{same_kind_lem}
 use Rattle.guards.specs.declared.Slot.{Slot}
-use Rattle.guards.specs.Sequences.{just, fields_agree, fits, stands_at}
+use Rattle.guards.specs.Sequences.{any_register_of, any_immediate_of, just, fields_agree, fits, stands_at}
 
 -- the slot's fields, with the word's own where the slot leaves them free
 abbrev pub filled_fields : Fields → Fields → Bool → Bool → Fields
 filled_fields p f any_b any_w = fields p.kind p.a (cond any_b f.b p.b) p.c (cond any_w f.w p.w)
 
 abbrev pub filled : Slot → Instr → Instr
-filled s i = instr_of (filled_fields (fields_of s.instr) (fields_of i) s.any_register s.any_immediate)
+filled s i = instr_of (filled_fields (fields_of s.instr) (fields_of i) (any_register_of s.free) (any_immediate_of s.free))
 
 -- what agreeing fields say of each field
 pub record Agrees (p f : Fields) (any_b any_w : Bool) : Type 0 where
@@ -66,7 +66,7 @@ unfolding fits
 fits_filled s i e =
     sym (instr_fields i)
     ∙ ap instr_of
-    (sym (fields_filled (fields_of s.instr) (fields_of i) s.any_register s.any_immediate (agrees (fields_of s.instr) (fields_of i) _ _ e)))
+    (sym (fields_filled (fields_of s.instr) (fields_of i) (any_register_of s.free) (any_immediate_of s.free) (agrees (fields_of s.instr) (fields_of i) _ _ e)))
 
 -- each word of a sequence that stands in memory fits its slot
 pub slot_fits : (memory : List ℕ) (b : ℕ) (slots : List Slot) → stands_at memory b slots ≡ true → (k : ℕ) → k < length slots

@@ -14,7 +14,7 @@ use Rattle.isa.proofs.Words.{opcode_kind_lem, pack_split, exact_back, split_pack
 use Rattle.isa.proofs.ByKind.{legal_fields}
 use Rattle.guards.specs.declared.Slot.{Slot}
 use Rattle.guards.specs.declared.Free.{Free}
-use Rattle.guards.specs.Sequences.{fields_agree, fits}
+use Rattle.guards.specs.Sequences.{any_register_of, any_immediate_of, fields_agree, fits}
 use Rattle.guards.specs.Patterns.{Form, slot_of}
 use Rattle.guards.proofs.Fits.{filled_fields, Agrees, agrees}
 
@@ -34,112 +34,118 @@ module _ (i : Instr) where
   abbrev p : Fields
   p = fields_of i
 
-  abbrev slot : Bool → Bool → Slot
-  slot any_b any_w = record { instr = i; any_register = any_b; any_immediate = any_w }
+  abbrev slot : Free → Slot
+  slot free = record { instr = i; free = free }
 
   -- what is taken out of a word: its free register and its free immediate
-  abbrev taken_b : Bool → ℕ → ℕ
-  taken_b any_b x = cond any_b (x / 2 ^ 40 % 256) 0
+  abbrev taken_b : Free → ℕ → ℕ
+  taken_b free x = cond (any_register_of free) (x / 2 ^ 40 % 256) 0
 
-  abbrev taken_w : Bool → ℕ → ℕ
-  taken_w any_w x = cond any_w (x % 2 ^ 32) 0
+  abbrev taken_w : Free → ℕ → ℕ
+  taken_w free x = cond (any_immediate_of free) (x % 2 ^ 32) 0
 
-  abbrev q : Bool → Bool → ℕ → Fields
-  q any_b any_w x = filled_fields p (split x) any_b any_w
+  abbrev q : Free → ℕ → Fields
+  q free x = filled_fields p (split x) (any_register_of free) (any_immediate_of free)
 
   -- the slot's fields, filled from any others that fit a word, are an exact form
-  free_register : (any_b any_w : Bool) (f : Fields) → Form (slot any_b any_w) → cond any_b f.b 0 < 32
-      → register_ok (named_by p.kind).b (cond any_b f.b p.b) ≡ true
-  free_register true any_w f h l = rw (h.register_named refl) (lt-ltb _ _ l)
-  free_register false any_w f h l = (fit p h.legal).b_fits
+  free_register : (free : Free) (f : Fields) → Form (slot free) → cond (any_register_of free) f.b 0 < 32
+      → register_ok (named_by p.kind).b (cond (any_register_of free) f.b p.b) ≡ true
+  free_register Free.Nothing f h l = (fit p h.legal).b_fits
+  free_register Free.Register f h l = rw (h.register_named refl) (lt-ltb _ _ l)
+  free_register Free.RegisterAndImmediate f h l = rw (h.register_named refl) (lt-ltb _ _ l)
 
-  free_immediate : (any_b any_w : Bool) (f : Fields) → Form (slot any_b any_w)
-      → immediate_ok (named_by p.kind).w (cond any_w f.w p.w) ≡ true
-  free_immediate any_b true f h = rw (h.immediate_named refl)
-  free_immediate any_b false f h = (fit p h.legal).w_fits
+  free_immediate : (free : Free) (f : Fields) → Form (slot free)
+      → immediate_ok (named_by p.kind).w (cond (any_immediate_of free) f.w p.w) ≡ true
+  free_immediate Free.Nothing f h = (fit p h.legal).w_fits
+  free_immediate Free.Register f h = (fit p h.legal).w_fits
+  free_immediate Free.RegisterAndImmediate f h = rw (h.immediate_named refl)
 
-  pub free_exact : (any_b any_w : Bool) (f : Fields) → Form (slot any_b any_w) → cond any_b f.b 0 < 32
-      → exact (filled_fields p f any_b any_w) ≡ true
-  free_exact any_b any_w f h l =
+  pub free_exact : (free : Free) (f : Fields) → Form (slot free) → cond (any_register_of free) f.b 0 < 32
+      → exact (filled_fields p f (any_register_of free) (any_immediate_of free)) ≡ true
+  free_exact free f h l =
       let e = fit p h.legal in
       both_true e.is_known
-      (both_true e.a_fits (both_true (free_register any_b any_w f h l) (both_true e.c_fits (free_immediate any_b any_w f h))))
+      (both_true e.a_fits (both_true (free_register free f h l) (both_true e.c_fits (free_immediate free f h))))
 
-  pub free_short : (any_b any_w : Bool) (f : Fields) → Form (slot any_b any_w) → f.w < 2 ^ 32 → cond any_w f.w p.w < 2 ^ 32
-  free_short any_b true f h l = l
-  free_short any_b false f h l = h.short
+  pub free_short : (free : Free) (f : Fields) → Form (slot free) → f.w < 2 ^ 32 → cond (any_immediate_of free) f.w p.w < 2 ^ 32
+  free_short Free.Nothing f h l = h.short
+  free_short Free.Register f h l = h.short
+  free_short Free.RegisterAndImmediate f h l = l
 
-  free_pack : (any_b any_w : Bool) (x : ℕ) → Form (slot any_b any_w) → x - taken_b any_b x * 2 ^ 40 - taken_w any_w x ≡ pack p
-      → pack (q any_b any_w x) ≡ x
-  free_pack true true x h e = let b = h.register_zero refl in let w = h.immediate_zero refl in omega arith
-  free_pack true false x h e = let b = h.register_zero refl in omega arith
-  free_pack false true x h e = let w = h.immediate_zero refl in omega arith
-  free_pack false false x h e = omega arith
+  free_pack : (free : Free) (x : ℕ) → Form (slot free) → x - taken_b free x * 2 ^ 40 - taken_w free x ≡ pack p → pack (q free x) ≡ x
+  free_pack Free.Nothing x h e = omega arith
+  free_pack Free.Register x h e = let b = h.register_zero refl in omega arith
+  free_pack Free.RegisterAndImmediate x h e = let b = h.register_zero refl in let w = h.immediate_zero refl in omega arith
 
-  word_fits : (any_b any_w : Bool) (x : ℕ) → Form (slot any_b any_w) → taken_b any_b x < 32
-      → x - taken_b any_b x * 2 ^ 40 - taken_w any_w x ≡ pack p → fits (slot any_b any_w) (decode_of x) ≡ true
+  word_fits : (free : Free) (x : ℕ) → Form (slot free) → taken_b free x < 32
+      → x - taken_b free x * 2 ^ 40 - taken_w free x ≡ pack p → fits (slot free) (decode_of x) ≡ true
   unfolding fits
-  word_fits any_b any_w x h l e =
-      let ok = free_exact any_b any_w (split x) h l in
-      let parts : split x ≡ q any_b any_w x =
-      ap split (sym (free_pack any_b any_w x h e)) ∙ split_pack (q any_b any_w x) ok (free_short any_b any_w (split x) h (omega arith)) in
-      ap (λ (g : Fields). fields_agree p g any_b any_w) (ap fields_of (decode_exact x (q any_b any_w x) parts ok) ∙ exact_back (q any_b any_w x) ok)
-      ∙ free_fit p (split x) any_b any_w
+  word_fits free x h l e =
+      let ok = free_exact free (split x) h l in
+      let parts : split x ≡ q free x =
+      ap split (sym (free_pack free x h e)) ∙ split_pack (q free x) ok (free_short free (split x) h (omega arith)) in
+      ap (λ (g : Fields). fields_agree p g (any_register_of free) (any_immediate_of free))
+      (ap fields_of (decode_exact x (q free x) parts ok) ∙ exact_back (q free x) ok)
+      ∙ free_fit p (split x) (any_register_of free) (any_immediate_of free)
 
-  unpack : (any_b any_w : Bool) (x : ℕ) → Form (slot any_b any_w) → Agrees p (split x) any_b any_w → pack (split x) ≡ x
-      → x - taken_b any_b x * 2 ^ 40 - taken_w any_w x ≡ pack p
-  unpack true true x h g e =
-      let b = h.register_zero refl in let w = h.immediate_zero refl in
-      let o = ap opcode_of g.kind in let a = g.a in let c = g.c in omega arith
-  unpack true false x h g e =
-      let b = h.register_zero refl in let w = g.w refl in
-      let o = ap opcode_of g.kind in let a = g.a in let c = g.c in omega arith
-  unpack false true x h g e =
-      let b = g.b refl in let w = h.immediate_zero refl in
-      let o = ap opcode_of g.kind in let a = g.a in let c = g.c in omega arith
-  unpack false false x h g e =
+  unpack : (free : Free) (x : ℕ) → Form (slot free) → Agrees p (split x) (any_register_of free) (any_immediate_of free) → pack (split x) ≡ x
+      → x - taken_b free x * 2 ^ 40 - taken_w free x ≡ pack p
+  unpack Free.Nothing x h g e =
       let b = g.b refl in let w = g.w refl in
       let o = ap opcode_of g.kind in let a = g.a in let c = g.c in omega arith
+  unpack Free.Register x h g e =
+      let b = h.register_zero refl in let w = g.w refl in
+      let o = ap opcode_of g.kind in let a = g.a in let c = g.c in omega arith
+  unpack Free.RegisterAndImmediate x h g e =
+      let b = h.register_zero refl in let w = h.immediate_zero refl in
+      let o = ap opcode_of g.kind in let a = g.a in let c = g.c in omega arith
 
-  small_register : (any_b any_w : Bool) (x : ℕ) → Form (slot any_b any_w) → p.kind ≡ (split x).kind → exact (split x) ≡ true
-      → taken_b any_b x < 32
-  small_register true any_w x h k e =
+  small_if_named : (x : ℕ) → (named_by p.kind).b ≡ true → p.kind ≡ (split x).kind → exact (split x) ≡ true → x / 2 ^ 40 % 256 < 32
+  small_if_named x named k e =
       ltb-true _ _
-      (subst (λ (b : Bool). register_ok b (split x).b ≡ true)
-      (ap (λ (z : Kind). (named_by z).b) (sym k) ∙ h.register_named refl)
-      (fit (split x) e).b_fits)
-  small_register false any_w x h k e = omega arith
+      (subst (λ (b : Bool). register_ok b (split x).b ≡ true) (ap (λ (z : Kind). (named_by z).b) (sym k) ∙ named) (fit (split x) e).b_fits)
 
-  record Taken (any_b any_w : Bool) (x : ℕ) : Type 0 where
-    low : taken_b any_b x < 32
-    rest : x - taken_b any_b x * 2 ^ 40 - taken_w any_w x ≡ pack p
+  small_register : (free : Free) (x : ℕ) → Form (slot free) → p.kind ≡ (split x).kind → exact (split x) ≡ true → taken_b free x < 32
+  small_register Free.Nothing x h k e = omega arith
+  small_register Free.Register x h k e = small_if_named x (h.register_named refl) k e
+  small_register Free.RegisterAndImmediate x h k e = small_if_named x (h.register_named refl) k e
 
-  fits_word : (any_b any_w : Bool) (x : ℕ) → Form (slot any_b any_w) → fits (slot any_b any_w) (decode_of x) ≡ true → Taken any_b any_w x
+  record Taken (free : Free) (x : ℕ) : Type 0 where
+    low : taken_b free x < 32
+    rest : x - taken_b free x * 2 ^ 40 - taken_w free x ≡ pack p
+
+  fits_word : (free : Free) (x : ℕ) → Form (slot free) → fits (slot free) (decode_of x) ≡ true → Taken free x
   unfolding fits decode_of
-  fits_word any_b any_w x h e = go (exact (split x)) refl
+  fits_word free x h e = go (exact (split x)) refl
     where
-      go : (b : Bool) → exact (split x) ≡ b → Taken any_b any_w x
+      any_b : Bool
+      any_b = any_register_of free
+
+      any_w : Bool
+      any_w = any_immediate_of free
+
+      go : (b : Bool) → exact (split x) ≡ b → Taken free x
       go true ok =
           let g = agrees p (split x) any_b any_w
           (ap (λ (g : Fields). fields_agree p g any_b any_w) (sym (legal_fields x ok)) ∙ e) in
-          record { low = small_register any_b any_w x h g.kind ok; rest = unpack any_b any_w x h g (legal_pack x ok) }
+          record { low = small_register free x h g.kind ok; rest = unpack free x h g (legal_pack x ok) }
       go false bad =
           let g = agrees p (fields_of Instr.Illegal) any_b any_w
           (ap (λ (b : Bool). fields_agree p (fields_of (cond b (instr_of (split x)) Instr.Illegal)) any_b any_w) (sym bad) ∙ e) in
           absurd (true_false (fit p h.legal).is_known (ap known g.kind))
 
   -- the test that the code makes
-  pub taken_fits : (any_b any_w : Bool) (x y b w : ℕ) → Form (slot any_b any_w) → y ≡ pack p → b ≡ taken_b any_b x → w ≡ taken_w any_w x
-      → (ltb b 32 && eqb (x - b * 2 ^ 40 - w) y) ≡ fits (slot any_b any_w) (decode_of x)
-  taken_fits any_b any_w x y b w h ey eb ew =
+  pub taken_fits : (free : Free) (x y b w : ℕ) → Form (slot free) → y ≡ pack p → b ≡ taken_b free x → w ≡ taken_w free x
+      → (ltb b 32 && eqb (x - b * 2 ^ 40 - w) y) ≡ fits (slot free) (decode_of x)
+  taken_fits free x y b w h ey eb ew =
       rw (ey, eb, ew)
       (same_bool _ _
       (λ t.
-      word_fits any_b any_w x h
-      (ltb-true _ _ (and_left _ (eqb (x - taken_b any_b x * 2 ^ 40 - taken_w any_w x) (pack p)) t))
-      (eqb-true _ _ (and_right (ltb (taken_b any_b x) 32) _ t)))
+      word_fits free x h
+      (ltb-true _ _ (and_left _ (eqb (x - taken_b free x * 2 ^ 40 - taken_w free x) (pack p)) t))
+      (eqb-true _ _ (and_right (ltb (taken_b free x) 32) _ t)))
       (λ t.
-      let g = fits_word any_b any_w x h t in
+      let g = fits_word free x h t in
       both_true (lt-ltb _ _ g.low) (eq-eqb _ _ g.rest)))
 
 -- the word of a legal instruction is packed from its fields
@@ -151,14 +157,14 @@ module _ (x y : ℕ) where
   pub fits_whole : Form (slot_of y Free.Nothing) → eqb x y ≡ fits (slot_of y Free.Nothing) (decode_of x)
   fits_whole h =
       let z : x - 0 * 2 ^ 40 - 0 ≡ x = omega arith in
-      ap (λ (n : ℕ). eqb n y) (sym z) ∙ taken_fits (decode_of y) false false x y 0 0 h (packed y h.legal) refl refl
+      ap (λ (n : ℕ). eqb n y) (sym z) ∙ taken_fits (decode_of y) Free.Nothing x y 0 0 h (packed y h.legal) refl refl
 
   -- the register, or the immediate too, is taken out
   pub fits_register : Form (slot_of y Free.Register)
       → (ltb (x / 2 ^ 40 % 256) 32 && eqb (x - x / 2 ^ 40 % 256 * 2 ^ 40 - 0) y) ≡ fits (slot_of y Free.Register) (decode_of x)
-  fits_register h = taken_fits (decode_of y) true false x y (x / 2 ^ 40 % 256) 0 h (packed y h.legal) refl refl
+  fits_register h = taken_fits (decode_of y) Free.Register x y (x / 2 ^ 40 % 256) 0 h (packed y h.legal) refl refl
 
   pub fits_both : Form (slot_of y Free.RegisterAndImmediate)
       → (ltb (x / 2 ^ 40 % 256) 32 && eqb (x - x / 2 ^ 40 % 256 * 2 ^ 40 - x % 2 ^ 32) y)
       ≡ fits (slot_of y Free.RegisterAndImmediate) (decode_of x)
-  fits_both h = taken_fits (decode_of y) true true x y (x / 2 ^ 40 % 256) (x % 2 ^ 32) h (packed y h.legal) refl refl
+  fits_both h = taken_fits (decode_of y) Free.RegisterAndImmediate x y (x / 2 ^ 40 % 256) (x % 2 ^ 32) h (packed y h.legal) refl refl

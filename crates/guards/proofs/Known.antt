@@ -106,7 +106,7 @@ slot_no_label : (slots : List Slot) → no_label slots ≡ true → (k : ℕ) �
 unfolding fits
 slot_no_label [] e k h w f = omega arith
 slot_no_label (s ∷ slots) e zero h w f =
-    let label : is_kind Kind.Label s.instr ≡ true = ap (same_kind Kind.Label) (agrees (fields_of s.instr) (fields_of (Instr.Label w)) s.any_register s.any_immediate f).kind in
+    let label : is_kind Kind.Label s.instr ≡ true = ap (same_kind Kind.Label) (agrees (fields_of s.instr) (fields_of (Instr.Label w)) _ _ f).kind in
     true_false label (not-true _ (and_left (not (is_kind Kind.Label s.instr)) _ e))
 slot_no_label (s ∷ slots) e (suc k) h w f =
     slot_no_label slots (and_right (not (is_kind Kind.Label s.instr)) _ e) k (omega arith) w f

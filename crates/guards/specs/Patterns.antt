@@ -1,6 +1,6 @@
 -- Guard sequences as code has them: an array of words, and for each how much of it is free. `guards::jump_words` and the contracts of
 -- private functions cite these; nothing that is promised to users does.
-use Rattle.std.specs.Prelude.{ℕ, zero, suc, ◌+◌, ◌^◌, ◌<◌, ◌≡◌, Bool, true, false, cond, ◌&&◌, ◌||◌, List, [], ◌∷◌, get_or, set, ltb, leb, eqb, Option, None, Some}
+use Rattle.std.specs.Prelude.{ℕ, zero, suc, ◌+◌, ◌^◌, ◌<◌, ◌≡◌, Bool, true, false, ◌&&◌, ◌||◌, List, [], ◌∷◌, length, get_or, set, ltb, leb, Option, None, Some}
 use Rattle.lists.specs.Search.{any}
 use Rattle.isa.specs.declared.Instr.{Instr}
 use Rattle.isa.specs.declared.Technique.{Technique}
@@ -8,45 +8,38 @@ use Rattle.isa.specs.Words.{named_by, exact, fields_of, decode_of, encode_of}
 use Rattle.isa.specs.Instructions.{instr_at, is_jump, is_store, branch_target}
 use Rattle.guards.specs.declared.Slot.{Slot}
 use Rattle.guards.specs.declared.Free.{Free}
-use Rattle.guards.specs.Sequences.{jump_guard}
+use Rattle.guards.specs.Sequences.{any_register_of, any_immediate_of, jump_guard}
 use Rattle.guards.specs.Rules.{store_unguarded, jump_unguarded}
 
-abbrev pub any_register_of : Free → Bool
-any_register_of Free.Nothing = false
-any_register_of Free.Register = true
-any_register_of Free.RegisterAndImmediate = true
-
-abbrev pub any_immediate_of : Free → Bool
-any_immediate_of Free.Nothing = false
-any_immediate_of Free.Register = false
-any_immediate_of Free.RegisterAndImmediate = true
-
 abbrev pub slot_of : ℕ → Free → Slot
-slot_of word free = record { instr = decode_of word; any_register = any_register_of free; any_immediate = any_immediate_of free }
-
--- the word at place k, where one is given apart from the array, with its place
-abbrev pub word_at : List ℕ → Option (ℕ × ℕ) → ℕ → ℕ
-word_at words None k = get_or words k 0
-word_at words (Some apart) k = cond (eqb k apart.0) apart.1 (get_or words k 0)
+slot_of word free = record { instr = decode_of word; free = free }
 
 -- the slots from place k on, m of them
-unfoldable pub slots_from : (ℕ → ℕ) → List Free → ℕ → ℕ → List Slot
-slots_from word free k zero = []
-slots_from word free k (suc m) = slot_of (word k) (get_or free k Free.Nothing) ∷ slots_from word free (suc k) m
+unfoldable pub slots_from : List ℕ → List Free → ℕ → ℕ → List Slot
+slots_from words free k zero = []
+slots_from words free k (suc m) = slot_of (get_or words k 0) (get_or free k Free.Nothing) ∷ slots_from words free (suc k) m
+
+-- the slots of a sequence, by its words and by how much of each is free
+abbrev pub slots_of : List ℕ → List Free → List Slot
+slots_of words free = slots_from words free 0 (length words)
 
 -- a legal instruction, whose free fields are named and 0
 pub record Form (s : Slot) : Type 0 where
   pub legal : exact (fields_of s.instr) ≡ true
   pub short : (fields_of s.instr).w < 2 ^ 32
-  pub register_named : s.any_register ≡ true → (named_by (fields_of s.instr).kind).b ≡ true
-  pub register_zero : s.any_register ≡ true → (fields_of s.instr).b ≡ 0
-  pub immediate_named : s.any_immediate ≡ true → (named_by (fields_of s.instr).kind).w ≡ true
-  pub immediate_zero : s.any_immediate ≡ true → (fields_of s.instr).w ≡ 0
-  pub register_too : s.any_immediate ≡ true → s.any_register ≡ true
+  pub register_named : any_register_of s.free ≡ true → (named_by (fields_of s.instr).kind).b ≡ true
+  pub register_zero : any_register_of s.free ≡ true → (fields_of s.instr).b ≡ 0
+  pub immediate_named : any_immediate_of s.free ≡ true → (named_by (fields_of s.instr).kind).w ≡ true
+  pub immediate_zero : any_immediate_of s.free ≡ true → (fields_of s.instr).w ≡ 0
 
 abbrev pub Formed : List Slot → Type 0
 Formed [] = Unit {0}
 Formed (s ∷ slots) = Form s × Formed slots
+
+-- the words of a sequence have that form, and of each it is told how much is free
+pub record Sequenced (words : List ℕ) (free : List Free) : Type 0 where
+  pub as_many : length free ≡ length words
+  pub form : (k : ℕ) → k < length words → Form (slot_of (get_or words k 0) (get_or free k Free.Nothing))
 
 -- the words of a sequence in an array of m, and how much of each is free
 abbrev pub words_of : ℕ → List Slot → List ℕ
@@ -54,13 +47,10 @@ words_of zero slots = []
 words_of (suc m) [] = 0 ∷ words_of m []
 words_of (suc m) (s ∷ slots) = encode_of s.instr ∷ words_of m slots
 
-abbrev pub free_of : Slot → Free
-free_of s = cond s.any_immediate Free.RegisterAndImmediate (cond s.any_register Free.Register Free.Nothing)
-
 abbrev pub frees_of : ℕ → List Slot → List Free
 frees_of zero slots = []
 frees_of (suc m) [] = Free.Nothing ∷ frees_of m []
-frees_of (suc m) (s ∷ slots) = free_of s ∷ frees_of m slots
+frees_of (suc m) (s ∷ slots) = s.free ∷ frees_of m slots
 
 -- how many words a jmp's sequence has
 abbrev pub jump_length : Technique → ℕ

@@ -6,16 +6,28 @@ use Rattle.isa.specs.declared.Technique.{Technique}
 use Rattle.isa.specs.Words.{same_kind, fields_of}
 use Rattle.isa.specs.Instructions.{instr_at}
 use Rattle.guards.specs.declared.Slot.{Slot}
+use Rattle.guards.specs.declared.Free.{Free}
+
+-- what is free: field b, and w
+abbrev pub any_register_of : Free → Bool
+any_register_of Free.Nothing = false
+any_register_of Free.Register = true
+any_register_of Free.RegisterAndImmediate = true
+
+abbrev pub any_immediate_of : Free → Bool
+any_immediate_of Free.Nothing = false
+any_immediate_of Free.Register = false
+any_immediate_of Free.RegisterAndImmediate = true
 
 -- the instruction itself; with any register in field b; with any register there and any w
 abbrev pub just : Instr → Slot
-just i = record { instr = i; any_register = false; any_immediate = false }
+just i = record { instr = i; free = Free.Nothing }
 
 abbrev pub any_register_in : Instr → Slot
-any_register_in i = record { instr = i; any_register = true; any_immediate = false }
+any_register_in i = record { instr = i; free = Free.Register }
 
 abbrev pub any_register_and_immediate : Instr → Slot
-any_register_and_immediate i = record { instr = i; any_register = true; any_immediate = true }
+any_register_and_immediate i = record { instr = i; free = Free.RegisterAndImmediate }
 
 -- the test that the word at r0 is the label of the target set: "ld r1, r0(0); movi r2, ID; bgt r1, r2, HALT; bgt r2, r1, HALT"
 abbrev pub label_test : ℕ → ℕ → List Slot → List Slot
@@ -53,7 +65,7 @@ fields_agree p f any_b any_w =
 
 -- the instruction is the slot's, but for what the slot leaves free
 unfoldable pub fits : Slot → Instr → Bool
-fits s i = fields_agree (fields_of s.instr) (fields_of i) s.any_register s.any_immediate
+fits s i = fields_agree (fields_of s.instr) (fields_of i) (any_register_of s.free) (any_immediate_of s.free)
 
 -- the sequence stands in memory from address b on
 unfoldable pub stands_at : List ℕ → ℕ → List Slot → Bool

@@ -10,14 +10,6 @@ ghost use Rattle.guards.specs.Patterns.{jump_words};
 
 use isa::{Instr, Technique, encode};
 
-// A word of a guard sequence: an instruction, of which register field b or the immediate w may be free.
-#[derive(Clone, Copy)]
-pub struct Slot {
-    pub instr: Instr,
-    pub any_register: bool,
-    pub any_immediate: bool,
-}
-
 // How much of a word of a guard sequence is free: nothing, its register field b, or that and its immediate w.
 #[derive(Clone, Copy, Debug, PartialEq, Eq)]
 pub enum Free {
@@ -26,8 +18,15 @@ pub enum Free {
     RegisterAndImmediate,
 }
 
-// The words that lead to a jmp, itself the last, in a code whose last address is halt; but for the movi that holds the ID: 0 stands
-// there, and it is given apart.
+// A word of a guard sequence, as the definitions say it: an instruction, and how much of it is free.
+#[derive(Clone, Copy, Debug, PartialEq, Eq)]
+pub struct Slot {
+    pub instr: Instr,
+    pub free: Free,
+}
+
+// The words that lead to a jmp, itself the last, in a code whose last address is halt: 6 or 10 of them, and then 0. For the movi that
+// holds the ID there is 0 too. An array for either technique: with no heap, no list of its own length can be made.
 pub fn jump_words(technique: Technique, halt: u32) -> [u64; 10]
     ensures { result ≡ jump_words technique (halt + 1) }
 {

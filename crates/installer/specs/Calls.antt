@@ -5,7 +5,6 @@ use Rattle.answers.specs.declared.Place.{Place}
 use Rattle.isa.specs.declared.Technique.{Technique}
 use Rattle.guarded.specs.Rewrite.{Guarded}
 use Rattle.guarded.specs.Rules.{bare_verdict_of}
-use Rattle.rewrite.specs.declared.Rewritten.{Rewritten}
 use Rattle.rewrite.specs.Answers.{Answer, places_short, answer_of, after_rewrite, plain_of}
 use Rattle.capi.specs.Checks.{answer_number, answer_place, place_after}
 

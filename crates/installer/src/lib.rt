@@ -1,4 +1,5 @@
 // The calls for C and Rust that an installer makes: guards put into bare code (document 02, K7). `include/post_guard.h` says the same for C.
+// C lends each place by itself, and so the list of parameters is long.
 #![tactic(auto)]
 
 ghost use Rattle.installer.specs.Calls.{RewriteCall};
@@ -8,7 +9,6 @@ use answers::Fault;
 use capi::{put, put_answer, room_of};
 use rewrite::Rewritten;
 
-#[tactic(auto, using(capi::proofs::Puts::room_fits))]
 pub fn pg_rewrite(
     memory: &[u64],
     n: usize,
@@ -27,6 +27,7 @@ pub fn pg_rewrite(
 }
 
 // The number of what came out, and its counts and its place put down.
+// No plainer by one function with capi's `put_written`: each answer would have to be mapped to an array of its own length first.
 fn put_rewritten(rewritten: Result<Rewritten, Fault>, counts: &mut [u64], place: &mut [u64]) -> u32
     ensures { RewrittenPut rewritten counts.old place.old result counts.new place.new }
 {

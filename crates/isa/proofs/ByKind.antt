@@ -117,6 +117,3 @@ branch_low x h = go (is_kind Kind.Bgt (decode_of x)) refl
     go : (b : Bool) → is_kind Kind.Bgt (decode_of x) ≡ b → branch_target (decode_of x) ≡ Some (x % 2 ^ 32)
     go true e = ap branch_target (kind_decode Kind.Bgt refl x e)
     go false e = ap branch_target (kind_decode Kind.Jd refl x (sym (ap (λ (b : Bool). b || is_kind Kind.Jd (decode_of x)) e) ∙ h))
-
-pub no_branch : (i : Instr) → is_branch i ≡ false → branch_target i ≡ None
-no_branch i h = rw h

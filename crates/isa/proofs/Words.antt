@@ -42,10 +42,6 @@ pub decode_arm : (x : ℕ) (k : Kind) → kind_of (x / 2 ^ 56) ≡ k → (e : Bo
 unfolding decode_of
 decode_arm x k h e he r hr = rw (h, ← he) hr
 
-pub decode_unknown : (x : ℕ) → kind_of (x / 2 ^ 56) ≡ Kind.Unknown → decode_of x ≡ Instr.Illegal
-unfolding decode_of
-decode_unknown x h = rw h
-
 -- opcodes and kinds
 pub kind_opcode : (k : Kind) → kind_of (opcode_of k) ≡ k
 kind_opcode Kind.Label = refl

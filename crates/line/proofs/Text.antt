@@ -1,13 +1,8 @@
 -- Laws of text: a number's digits, and a text put at the front of a place.
 use Rattle.std.proofs.Common.{ℕ, ◌+◌, ◌/◌, ◌%◌, ◌^◌, ◌≤◌, ◌<◌, ◌≡◌, sym, ap, ◌∙◌, List, [], ◌∷◌, ◌++◌, arith, length, drop, length-append, append_assoc}
-use Rattle.std.specs.Prelude.{Result}
 use Rattle.std.proofs.lemmas.Fmt.{decimal_digit, decimal_step, length-decimal-le}
 use Rattle.lists.proofs.Places.{over_front}
-use Rattle.answers.specs.declared.Fault.{Fault}
-use Rattle.parcel.specs.declared.reader.Counts.{Counts}
-use Rattle.parcel.specs.Parcel.{read_of}
 use Rattle.line.specs.Text.{decimal_of, Puts}
-use Rattle.line.specs.Line.{answer_of, line_of, PutsLine}
 
 pub decimal_one : (x : ℕ) → x < 10 → decimal_of x ≡ (48 + x) ∷ []
 decimal_one x l = decimal_digit x l

@@ -72,6 +72,7 @@ impl Line {
     }
 
     // Puts the text at the front of a lent place, and answers its length.
+    #[tactic(auto, using(crate::proofs::Text::puts_front))]
     pub(crate) fn put(&self, place: &mut [u8; 80]) -> usize
         ensures puts { Puts self.now place.old 0 result place.new }
         ensures fits { result ≤ 80 }

@@ -1,27 +1,54 @@
--- Laws of the first number that passes a test: what tells it, what it tells, and how chains over slices and ranges answer it.
-use Rattle.std.proofs.Common.{◌≡◌, refl, sym, ◌∙◌, ap, ℕ, ◌+◌, ◌<◌, ◌≤◌, Bool, true, false, cond, List, [], ◌∷◌, ◌++◌, length, take, get_or, arith}
+-- Laws of the first number that passes a test: that it is the lowest, what tells it, what it tells, and how chains over slices answer it.
+use Rattle.std.proofs.Common.{◌≡◌, refl, sym, ◌∙◌, ap, ℕ, ◌+◌, ◌<◌, ◌≤◌, Bool, true, false, cond, ◌||◌, List, length, take, get_or, arith}
 use Prim.Native.Nat.{zero, suc}
-use Rattle.std.specs.Prelude.{Option, Some, None, position, ltb, eqb}
-use Rattle.std.specs.List.{position_or_len}
+use Rattle.std.specs.Prelude.{Some, None, position, ltb, eqb}
+use Rattle.std.specs.List.{position_or_len, range_with_len, slice_get, fold}
 use Rattle.std.proofs.lemmas.Bool.{ltb-true, ltb-false, lt-ltb, le-ltb}
 use Rattle.std.proofs.lemmas.List.{length-take-le}
 use Rattle.std.proofs.Math.Seq.{take-suc}
-use Rattle.std.proofs.lemmas.List.Folds.{position_or_len_push}
+use Rattle.std.proofs.lemmas.List.Folds.{find_at, position_or_len_push}
+use Rattle.std.proofs.lemmas.List.FromFn.{length-range_with_len, get_or-range_with_len}
+use Rattle.std.proofs.lemmas.List.Sums.{position_or_len_is}
+use Rattle.std.proofs.lemmas.Option.{slice_get-get_or, slice_get_past}
+use native.Mathlib.Nat.{add-zero}
+use native.Mathlib.Numerals.{add-one}
 use borrow.Author.Tests.{eq-eqb, ne_eqb}
-use Rattle.lists.specs.Search.{lowest, first}
+use Rattle.lists.specs.Search.{lowest, first, any}
 use Rattle.lists.proofs.Bools.{clash}
-use Rattle.lists.proofs.Search.{Clean, lowest_is, lowest_at, lowest_none}
+use Rattle.lists.proofs.Search.{Clean, lowest_is, lowest_at, lowest_none, lowest_ext, any_none}
+
+place_is : (f : ℕ → Bool) (xs : List ℕ) → position_or_len f xs ≡ lowest (λ a. f (get_or xs a 0)) (length xs)
+place_is f xs =
+    let low = lowest_is (λ a. f (get_or xs a 0)) (length xs) in
+    position_or_len_is f xs (lowest (λ a. f (get_or xs a 0)) (length xs)) 0 low.within low.clean low.found
+
+at : (n k : ℕ) → k < n → get_or (range_with_len 0 n) k 0 ≡ k
+at n k l = get_or-range_with_len 0 n k 0 l ∙ omega arith
+
+-- it is the lowest number that passes, where that is below n
+pub first_lowest : (f : ℕ → Bool) (n : ℕ) → first f n ≡ cond (ltb (lowest f n) n) (Some (lowest f n)) None
+unfolding first
+first_lowest f n =
+    find_at f (range_with_len 0 n)
+    ∙ rw (place_is f (range_with_len 0 n), length-range_with_len 0 n, lowest_ext (λ a. f (get_or (range_with_len 0 n) a 0)) f n (λ k l. ap f (at n k l)))
+    (go (ltb (lowest f n) n) refl)
+  where
+    go : (b : Bool) → ltb (lowest f n) n ≡ b → slice_get (range_with_len 0 n) (lowest f n) ≡ cond b (Some (lowest f n)) None
+    go true e =
+        let l = ltb-true _ _ e in
+        slice_get-get_or (range_with_len 0 n) (lowest f n) 0 (omega (arith, l, length-range_with_len 0 n)) ∙ ap Some (at n (lowest f n) l)
+    go false e = slice_get_past (range_with_len 0 n) (lowest f n) (omega (arith, ltb-false _ _ e, length-range_with_len 0 n))
 
 -- a search that stops at i, and one that passes every number
 pub first_at : (f : ℕ → Bool) (n i : ℕ) → i < n → Clean f i → f i ≡ true → Some i ≡ first f n
-first_at f n i l c t = let e = lowest_at f n i l c t in rw (← e, lt-ltb i n l)
+first_at f n i l c t = let e = lowest_at f n i l c t in rw (first_lowest f n, ← e, lt-ltb i n l)
 
 pub first_none : (f : ℕ → Bool) (n : ℕ) → Clean f n → None ≡ first f n
-first_none f n c = let e = lowest_none f n n refl c in rw (← e, le-ltb n n (omega arith))
+first_none f n c = let e = lowest_none f n n refl c in rw (first_lowest f n, ← e, le-ltb n n (omega arith))
 
 -- what its answer r tells
 pub first_clean : (f : ℕ → Bool) (n : ℕ) → None ≡ first f n → Clean f n
-first_clean f n = go (ltb (lowest f n) n) refl
+first_clean f n e = go (ltb (lowest f n) n) refl (e ∙ first_lowest f n)
   where
     go : (b : Bool) → ltb (lowest f n) n ≡ b → None ≡ cond b (Some (lowest f n)) None → Clean f n
     go true q e = clash (cc)
@@ -29,7 +56,7 @@ first_clean f n = go (ltb (lowest f n) n) refl
 
 -- its place is below n, is the lowest, and passes
 pub first_found : (f : ℕ → Bool) (n i : ℕ) → Some i ≡ first f n → (i < n) × (i ≡ lowest f n) × (f i ≡ true)
-first_found f n i = go (ltb (lowest f n) n) refl
+first_found f n i e = go (ltb (lowest f n) n) refl (e ∙ first_lowest f n)
   where
     go : (b : Bool) → ltb (lowest f n) n ≡ b → Some i ≡ cond b (Some (lowest f n)) None → (i < n) × (i ≡ lowest f n) × (f i ≡ true)
     go true q e =
@@ -62,4 +89,18 @@ positions p xs (suc n) h =
         rw (q, eq-eqb _ _ s) (omega arith)
 
 pub first_position : (p : ℕ → Bool) (xs : List ℕ) (n : ℕ) → n ≤ length xs → position p (take n xs) ≡ first (λ a. p (get_or xs a 0)) n
-first_position p xs n h = rw (positions p xs n h, length-take-le n xs h)
+first_position p xs n h = rw (first_lowest (λ a. p (get_or xs a 0)) n, positions p xs n h, length-take-le n xs h)
+
+-- a fold over the numbers tells whether one passes: those below a are known, and j from a on are asked
+fold_any : (f : ℕ → Bool) (a j : ℕ) {found : Bool} → found ≡ any f a → fold (λ found k. f k || found) found (range_with_len a j) ≡ any f (a + j)
+unfolding any
+fold_any f a zero e = rw add-zero e
+fold_any f a (suc j) e =
+    let more : any f (a + 1) ≡ f a || any f a = ap (any f) (add-one a) in
+    fold_any f (a + 1) j (ap (λ (b : Bool). f a || b) e ∙ sym more) ∙ ap (any f) (omega arith)
+
+pub folded_none : (f : ℕ → Bool) (n : ℕ) → fold (λ found k. f k || found) false (range_with_len 0 n) ≡ false → None ≡ first f n
+unfolding any
+folded_none f n e =
+    let all : 0 + n ≡ n = omega arith in
+    first_none f n (any_none f n (sym (fold_any f 0 n refl ∙ ap (any f) all) ∙ e))

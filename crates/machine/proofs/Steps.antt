@@ -17,10 +17,6 @@ use Rattle.machine.specs.Steps.{fetch_end, store_start, next_allowed, reg_of, st
 use Rattle.machine.specs.Runs.{ran, run_from, run_memory_from}
 use Rattle.machine.specs.Inside.{InRange, moved_of, registers_after, Carried}
 
-pub fetch_within : (t : Technique) (len n : ℕ) → n ≤ len → fetch_end t n len ≤ len
-fetch_within Technique.Plain len n h = h
-fetch_within Technique.MemoryGuards len n h = omega arith
-
 -- what is about to be done is in range, where it is not a stop
 abbrev InRangeIf : ℕ → Result Effect Stop → Type 0
 InRangeIf len (Ok effect) = InRange len effect

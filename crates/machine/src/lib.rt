@@ -1,7 +1,8 @@
 // The machine: one step by either technique, and the bounded run (document 01, "Steps").
 //
-// `step` and `run` take and return the state by value; `run_lent` works on a state that is lent as words, without a copy. Every
-// step is made by `run_over`, over lent registers: its loop is the one place where the compiler puts the whole of a step.
+// `step` and `run` take and return the state by value; `run_lent` works on a state that is lent as words, without a copy (a rule of the
+// project: by value at the boundary, lent inside). Every step is made by `run_over`, over lent registers: its loop is the one place
+// where the compiler puts the whole of a step.
 #![tactic(auto)]
 
 ghost use Rattle.std.specs.Prelude.{◌≡◌, ◌<◌, true, cond, length, slice_index, nat_lt};
@@ -93,7 +94,8 @@ pub struct Ended {
     pub count: u16,
 }
 
-// The parameters of these three are those of the calls from C, which lend them apart.
+// The parameters of the next three and of `run_over` are those of the calls from C, which lend them apart.
+
 // One step: a run with limit 1. The memory is n words of code and then the data.
 #[tactic(auto, using(crate::proofs::OneStep::one_step, crate::proofs::Theorems::steps))]
 pub fn step(technique: Technique, state: State, memory: &mut [u64], n: usize) -> Stepped
@@ -149,7 +151,7 @@ fn refused(refusal: Refusal) -> Ended
 }
 
 // What a step that can be made is about to do: the next pc, and with it a register or a word of memory to write.
-#[derive(Clone, Copy)]
+#[derive(Clone, Copy, Debug, PartialEq, Eq)]
 pub enum Effect {
     Go(u64),
     SetRegister(u8, u64, u64),
@@ -197,64 +199,21 @@ struct Figure {
 }
 
 impl Figure {
-    // One step over lent registers: the next pc, or why it cannot be made.
+    // One step over lent registers: the next pc, or why it cannot be made. No struct holds the two `&mut`: the shape of the memory, a ghost
+    // field, cannot stand beside them (docs/NOT_COVERED.md of the kit).
     #[tactic(auto, using(crate::proofs::Steps::intent_in), unfolding(crate::specs::Steps::memory_after, crate::specs::Inside::moved_of, crate::specs::Inside::registers_after))]
     fn advance(self, memory: &mut [u64], regs: &mut [u64; 32], pc: u64) -> Result<u64, Stop>
         requires { memory_shaped (length memory.old) self.n ≡ true }
         ensures { Carried (intent_of self.technique self.n memory.old (state_of regs.old pc)) regs.old memory.old result regs.new memory.new }
     {
-        let effect = self.intent(memory, regs, pc)?;
+        let before = Before {
+            figure: self,
+            memory,
+            regs,
+            pc,
+        };
+        let effect = before.intent()?;
         Ok(perform(memory, regs, effect))
-    }
-
-    // What the step is about to do, or why it cannot be made.
-    #[tactic(auto, using(answers::proofs::Shape::shaped, crate::proofs::Steps::fetch_within, isa::proofs::Words::decode_registers), unfolding(crate::specs::Steps::intent_of))]
-    fn intent(self, memory: &[u64], regs: &[u64; 32], pc: u64) -> Result<Effect, Stop>
-        requires { memory_shaped (length memory.now) self.n ≡ true }
-        ensures { result ≡ intent_of self.technique self.n memory.now (state_of regs.now pc) }
-    {
-        let at = pc as usize;
-        if at < self.fetch_end(memory.len()) {
-            return self.effect(memory, regs, pc, isa::decode(memory[at]));
-        }
-        Err(Stop::Fetch)
-    }
-
-    // What the instruction does, or why it cannot. Each arm tests its own next pc: that is faster than one test after the match.
-    #[tactic(auto, unfolding(crate::specs::Steps::settle_of, crate::specs::Steps::effect_of, crate::specs::Steps::load_of, crate::specs::Steps::store_of))]
-    fn effect(self, memory: &[u64], regs: &[u64; 32], pc: u64, i: Instr) -> Result<Effect, Stop>
-        requires { Registers i × (pc < 4096) }
-        ensures { result ≡ settle_of self.technique self.n (effect_of self.technique self.n memory.now (state_of regs.now pc) i) }
-    {
-        let next = pc + 1;
-        match i {
-            Instr::Label(_) => Ok(Effect::Go(self.to(next)?)),
-            Instr::Add(rd, rs, rt) => {
-                let sum = regs[rs as usize].wrapping_add(regs[rt as usize]);
-                Ok(Effect::SetRegister(rd, sum, self.to(next)?))
-            }
-            Instr::Addi(rd, rs, w) => {
-                let sum = regs[rs as usize].wrapping_add(u64::from(w));
-                Ok(Effect::SetRegister(rd, sum, self.to(next)?))
-            }
-            Instr::Movi(rd, w) => Ok(Effect::SetRegister(rd, u64::from(w), self.to(next)?)),
-            Instr::Bgt(rs, rt, w) => {
-                let taken = regs[rt as usize] < regs[rs as usize];
-                let next = if taken { u64::from(w) } else { next };
-                Ok(Effect::Go(self.to(next)?))
-            }
-            Instr::Jd(w) => Ok(Effect::Go(self.to(u64::from(w))?)),
-            Instr::Jmp(rs) => Ok(Effect::Go(self.to(regs[rs as usize])?)),
-            Instr::Ld(rd, rs, w) => {
-                let word = loaded(memory, regs[rs as usize], w)?;
-                Ok(Effect::SetRegister(rd, word, self.to(next)?))
-            }
-            Instr::St(rd, rs, w) => {
-                let address = self.stored(memory, regs[rd as usize], w)?;
-                Ok(Effect::PutWord(address, regs[rs as usize], self.to(next)?))
-            }
-            Instr::Illegal => Err(Stop::Illegal),
-        }
     }
 
     fn fetch_end(self, len: usize) -> usize
@@ -275,17 +234,6 @@ impl Figure {
         }
     }
 
-    // The address that a store writes to.
-    fn stored(self, memory: &[u64], base: u64, w: u32) -> Result<u64, Stop>
-        ensures { result ≡ cond (storable self.technique self.n memory.now (address_of base w)) (Ok (address_of base w)) (Err Stop.Access) }
-    {
-        let address = addresses::address(base, w).ok_or(Stop::Access)?;
-        if (self.store_start()..memory.len()).contains(&(address as usize)) {
-            return Ok(address);
-        }
-        Err(Stop::Access)
-    }
-
     // The next pc, if a step may go there.
     fn to(self, next: u64) -> Result<u64, Stop>
         ensures { result ≡ cond (next_allowed self.technique self.n next) (Ok next) (Err Stop.Next) }
@@ -297,12 +245,87 @@ impl Figure {
     }
 }
 
-// The word that a load reads.
-fn loaded(memory: &[u64], base: u64, w: u32) -> Result<u64, Stop>
-    ensures { result ≡ cond (nat_lt (address_of base w) (length memory.now)) (Ok (slice_index memory.now (address_of base w))) (Err Stop.Access) }
-{
-    let address = addresses::address(base, w).ok_or(Stop::Access)?;
-    memory.get(address as usize).copied().ok_or(Stop::Access)
+// What a step goes by: the figure, and the machine as it stands before the step.
+#[derive(Clone, Copy)]
+struct Before<'a> {
+    figure: Figure,
+    memory: &'a [u64],
+    regs: &'a [u64; 32],
+    pc: u64,
+    ghost shaped: { memory_shaped (length memory.now) figure.n ≡ true },
+}
+
+impl Before<'_> {
+    // What the step is about to do, or why it cannot be made.
+    #[tactic(auto, using(isa::proofs::Words::decode_registers), unfolding(crate::specs::Steps::intent_of))]
+    fn intent(&self) -> Result<Effect, Stop>
+        ensures { result ≡ intent_of self.now.figure.technique self.now.figure.n self.now.memory.now (state_of self.now.regs.now self.now.pc) }
+    {
+        let at = self.pc as usize;
+        if at < self.figure.fetch_end(self.memory.len()) {
+            return self.effect(isa::decode(self.memory[at]));
+        }
+        Err(Stop::Fetch)
+    }
+
+    // What the instruction does, or why it cannot. Each arm tests its own next pc: that is faster than one test after the match.
+    #[tactic(auto, unfolding(crate::specs::Steps::settle_of, crate::specs::Steps::effect_of, crate::specs::Steps::load_of, crate::specs::Steps::store_of))]
+    fn effect(&self, i: Instr) -> Result<Effect, Stop>
+        requires { Registers i × (self.now.pc < 4096) }
+        ensures { result ≡ settle_of self.now.figure.technique self.now.figure.n (effect_of self.now.figure.technique self.now.figure.n self.now.memory.now (state_of self.now.regs.now self.now.pc) i) }
+    {
+        let next = self.pc + 1;
+        match i {
+            Instr::Label(_) => Ok(Effect::Go(self.figure.to(next)?)),
+            Instr::Add(rd, rs, rt) => {
+                let sum = self.regs[usize::from(rs)].wrapping_add(self.regs[usize::from(rt)]);
+                Ok(Effect::SetRegister(rd, sum, self.figure.to(next)?))
+            }
+            Instr::Addi(rd, rs, w) => {
+                let sum = self.regs[usize::from(rs)].wrapping_add(u64::from(w));
+                Ok(Effect::SetRegister(rd, sum, self.figure.to(next)?))
+            }
+            Instr::Movi(rd, w) => Ok(Effect::SetRegister(rd, u64::from(w), self.figure.to(next)?)),
+            Instr::Bgt(rs, rt, w) => {
+                let taken = self.regs[usize::from(rt)] < self.regs[usize::from(rs)];
+                let next = if taken { u64::from(w) } else { next };
+                Ok(Effect::Go(self.figure.to(next)?))
+            }
+            Instr::Jd(w) => Ok(Effect::Go(self.figure.to(u64::from(w))?)),
+            Instr::Jmp(rs) => Ok(Effect::Go(self.figure.to(self.regs[usize::from(rs)])?)),
+            Instr::Ld(rd, rs, w) => {
+                let word = self.loaded(self.regs[usize::from(rs)], w)?;
+                Ok(Effect::SetRegister(rd, word, self.figure.to(next)?))
+            }
+            Instr::St(rd, rs, w) => {
+                let address = self.stored(self.regs[usize::from(rd)], w)?;
+                Ok(Effect::PutWord(address, self.regs[usize::from(rs)], self.figure.to(next)?))
+            }
+            Instr::Illegal => Err(Stop::Illegal),
+        }
+    }
+
+    // The word that a load reads.
+    fn loaded(&self, base: u64, w: u32) -> Result<u64, Stop>
+        ensures { result ≡ cond (nat_lt (address_of base w) (length self.now.memory.now)) (Ok (slice_index self.now.memory.now (address_of base w))) (Err Stop.Access) }
+    {
+        let address = addresses::address(base, w).ok_or(Stop::Access)?;
+        self.memory
+            .get(address as usize)
+            .copied()
+            .ok_or(Stop::Access)
+    }
+
+    // The address that a store writes to.
+    fn stored(&self, base: u64, w: u32) -> Result<u64, Stop>
+        ensures { result ≡ cond (storable self.now.figure.technique self.now.figure.n self.now.memory.now (address_of base w)) (Ok (address_of base w)) (Err Stop.Access) }
+    {
+        let address = addresses::address(base, w).ok_or(Stop::Access)?;
+        if (self.figure.store_start()..self.memory.len()).contains(&(address as usize)) {
+            return Ok(address);
+        }
+        Err(Stop::Access)
+    }
 }
 
 // The effect carried out on lent registers and memory: the next pc.
@@ -314,7 +337,7 @@ fn perform(memory: &mut [u64], regs: &mut [u64; 32], effect: Effect) -> u64
     match effect {
         Effect::Go(next) => next,
         Effect::SetRegister(rd, value, next) => {
-            regs[rd as usize] = value;
+            regs[usize::from(rd)] = value;
             next
         }
         Effect::PutWord(address, value, next) => {

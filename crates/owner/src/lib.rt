@@ -1,10 +1,8 @@
 // The calls for C and Rust that a site owner makes: figures of one program, and totals over many. `include/post_guard.h` declares
-// them.
+// them. C needs a name for each, however alike two of them are, and lends each place by itself: so the lists of parameters are long.
 #![tactic(auto)]
 
-ghost use Rattle.std.specs.Prelude.{◌≡◌, cond, ◌||◌, ◌+◌, ◌≤◌, ltb, length};
-ghost use Rattle.std.proofs.lemmas.List.Edits.{sets};
-ghost use Rattle.lists.specs.Places.{put_over};
+ghost use Rattle.std.specs.Prelude.{◌≡◌, cond};
 ghost use Rattle.report.specs.Reports.{report_of, parcel_report};
 ghost use Rattle.capi.specs.States.{technique_of};
 ghost use Rattle.owner.specs.Reports.{figure_numbers, total_numbers, totals_in, are_totals, added_number, added_place, ReportCall, AddCall};
@@ -25,9 +23,6 @@ pub fn pg_report(
 ) -> u32
     ensures { ReportCall (report_of (technique_of technique) memory.now n edges.now) figures.old place.old result figures.new place.new }
 {
-    if are_short(figures.len(), 14, place.len()) {
-        return too_short();
-    }
     let made = report::report(technique_of(technique), memory, n, edges);
     answer_report(made, figures, place)
 }
@@ -35,9 +30,6 @@ pub fn pg_report(
 pub fn pg_report_parcel(technique: u8, parcel: &[u8], figures: &mut [u64], place: &mut [u64]) -> u32
     ensures { ReportCall (parcel_report (technique_of technique) parcel.now) figures.old place.old result figures.new place.new }
 {
-    if are_short(figures.len(), 14, place.len()) {
-        return too_short();
-    }
     let made = report::report_parcel(technique_of(technique), parcel);
     answer_report(made, figures, place)
 }
@@ -52,9 +44,6 @@ pub fn pg_add_report(
 ) -> u32
     ensures { AddCall (report_of (technique_of technique) memory.now n edges.now) sums.old place.old result sums.new place.new }
 {
-    if are_short(sums.len(), 6, place.len()) {
-        return too_short();
-    }
     let made = report::report(technique_of(technique), memory, n, edges);
     answer_addition(made, sums, place)
 }
@@ -62,70 +51,63 @@ pub fn pg_add_report(
 pub fn pg_add_parcel(technique: u8, parcel: &[u8], sums: &mut [u64], place: &mut [u64]) -> u32
     ensures { AddCall (parcel_report (technique_of technique) parcel.now) sums.old place.old result sums.new place.new }
 {
-    if are_short(sums.len(), 6, place.len()) {
-        return too_short();
-    }
     let made = report::report_parcel(technique_of(technique), parcel);
     answer_addition(made, sums, place)
 }
 
-// Whether there is too little room for so many numbers, or for the two of a verdict's place. No plainer by capi's `room_of`: it answers a length.
-fn are_short(have: usize, needed: usize, place: usize) -> bool
-    ensures { result ≡ (ltb have needed || ltb place 2) }
-{
-    (have < needed) | (place < 2)
-}
-
 // The answer to a report, its figures and its place put down.
+// No plainer by one function with capi's `put_written`: each answer would have to be mapped to an array of its own length first.
 fn answer_report(report: Result<Figures, Fault>, figures: &mut [u64], place: &mut [u64]) -> u32
-    requires { (14 ≤ length figures.old) × (2 ≤ length place.old) }
     ensures { ReportCall report figures.old place.old result figures.new place.new }
 {
+    if figures.len() < 14 || place.len() < 2 {
+        return too_short();
+    }
     if let Ok(found) = report {
-        put_figures(figures, found);
+        put(figures, figure_numbers(found));
     }
     put_answer(place, report)
 }
 
 // The answer to a report that is added to totals, the new totals and the place put down.
 fn answer_addition(report: Result<Figures, Fault>, sums: &mut [u64], place: &mut [u64]) -> u32
-    requires { (6 ≤ length sums.old) × (2 ≤ length place.old) }
     ensures { AddCall report sums.old place.old result sums.new place.new }
 {
-    let answer = add_in(report, sums);
+    if place.len() < 2 {
+        return too_short();
+    }
+    let Some(six) = sums.first_chunk_mut::<6>() else {
+        return too_short();
+    };
+    let answer = add_in(report, six);
     put_place(place, added_place(answer));
     added_number(answer)
 }
 
-// The fourteen numbers of a program, at the front of the place.
-#[tactic(auto, using(crate::proofs::Figures::figures_put))]
-fn put_figures(place: &mut [u64], figures: Figures)
-    requires { 14 ≤ length place.old }
-    ensures { place.new ≡ put_over (figure_numbers figures) place.old }
+// The words of each kind, the target sets, the size of the largest, and the freedom's two numbers: 0 and 0 without jumps.
+fn figure_numbers(figures: Figures) -> [u64; 14]
+    ensures { result ≡ figure_numbers figures }
 {
     let freedom = figures.freedom.unwrap_or(Freedom {
         edges: 0,
         possible: 0,
     });
-    put_kinds(place, figures.kinds);
-    place[10] = u64::from(figures.sets);
-    place[11] = u64::from(figures.largest);
-    place[12] = u64::from(freedom.edges);
-    place[13] = u64::from(freedom.possible);
-}
-
-fn put_kinds(place: &mut [u64], kinds: [u16; 10])
-    requires { 10 ≤ length place.old }
-    ensures { place.new ≡ sets place.old 0 kinds }
-{
-    for i in 0..10 {
-        place[i] = u64::from(kinds[i]);
-    }
+    let mut numbers = [0; 14];
+    put(&mut numbers, figures.kinds.map(u64::from));
+    put(
+        &mut numbers[10..],
+        [
+            u64::from(figures.sets),
+            u64::from(figures.largest),
+            u64::from(freedom.edges),
+            u64::from(freedom.possible),
+        ],
+    );
+    numbers
 }
 
 // The report added to the totals in the numbers, which are put down again unless they are unchanged.
-fn add_in(report: Result<Figures, Fault>, sums: &mut [u64]) -> Added
-    requires { 6 ≤ length sums.old }
+fn add_in(report: Result<Figures, Fault>, sums: &mut [u64; 6]) -> Added
     ensures { AddedIn report sums.old result sums.new }
 {
     let Some(before) = totals_in(sums) else {
@@ -134,14 +116,13 @@ fn add_in(report: Result<Figures, Fault>, sums: &mut [u64]) -> Added
     let made = totals::add_report(before, report);
     match made.answer {
         Added::Unchanged => {}
-        _ => put(sums, total_numbers(made.totals)),
+        _ => *sums = total_numbers(made.totals),
     }
     made.answer
 }
 
 // The totals that six numbers say: at most 65,535 parcels, and a largest one whose numbers have their widths.
-fn totals_in(sums: &[u64]) -> Option<Totals>
-    requires { 6 ≤ length sums.now }
+fn totals_in(sums: &[u64; 6]) -> Option<Totals>
     ensures { result ≡ cond (are_totals sums.now) (Some (totals_in sums.now)) None }
 {
     let parcels = u16::try_from(sums[0]).ok()?;
@@ -174,6 +155,7 @@ fn total_numbers(totals: Totals) -> [u64; 6]
     ]
 }
 
+// The numbers are the C interface's: `From` could only stand in `totals`, where answers have none.
 fn added_number(answer: Added) -> u32
     ensures { result ≡ added_number answer }
 {

@@ -1,6 +1,6 @@
 -- A long input is read as its front is: each count stands in the front, and so does all that a section may hold.
 use Prim.Native.Nat.{ℕ, zero, suc, ◌+◌, ◌*◌, ◌-◌, ◌≤◌}
-use mathlib.Core.Path.{◌≡◌, refl, ap, sym, ◌∙◌}
+use mathlib.Core.Path.{◌≡◌, refl, sym, ◌∙◌}
 use mathlib.Core.Bool.{Bool, true, false, cond, ◌||◌}
 use mathlib.Core.List.{List, [], ◌∷◌}
 use native.Mathlib.Omega.{arith}
@@ -15,14 +15,8 @@ use Rattle.parcel.specs.Bytes.{number_of}
 use Rattle.parcel.specs.Parcel.{count_of, read_of}
 use Rattle.std.specs.Prelude.{Result, Ok, Err}
 use Rattle.parcel.proofs.Contents.{counted, code_refused, edges_refused, data_refused, bytes_left}
+use Rattle.parcel.proofs.Numbers.{number_front}
 use Rattle.parcel.specs.Theorems.{FrontSuffices}
-
-number_front : (w j : ℕ) (u : List ℕ) → w ≤ j → number_of w (take j u) ≡ number_of w u
-unfolding number_of
-number_front zero j u h = refl
-number_front (suc w) zero u h = absurd (omega arith)
-number_front (suc w) (suc j) [] h = refl
-number_front (suc w) (suc j) (x ∷ u) h = ap (λ (n : ℕ). x + n * 256) (number_front w j u (omega arith))
 
 drop_front : (at k : ℕ) (u : List ℕ) → at ≤ k → drop at (take k u) ≡ take (k - at) (drop at u)
 drop_front zero k u h = let e : k - 0 ≡ k = omega arith in rw e

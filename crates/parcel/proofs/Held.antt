@@ -10,19 +10,13 @@ use Rattle.answers.specs.declared.Refusal.{Refusal}
 use Rattle.parcel.specs.Parcel.{counts, count_of, read_of}
 use Rattle.parcel.specs.Inner.{held_of}
 use Rattle.parcel.proofs.Runs.{length_numbers}
-use Rattle.parcel.proofs.Contents.{code_refused, edges_refused, data_refused, bytes_left, all_read}
+use Rattle.parcel.proofs.Contents.{bytes_left, all_read}
 
 count_there : (size low : ℕ) {s rest : List ℕ} {c : Result ℕ Refusal} → rest ≡ s → count_of size low rest ≡ c → count_of size low s ≡ c
 count_there size low r h = ap (count_of size low) (sym r) ∙ h
 
 module _ (w : ℕ) (s : List ℕ) where
-  pub code_ends : {why : Refusal} → count_of 8 1 s ≡ Err why → Err why ≡ held_of (read_of w s)
-  code_ends h = sym (ap held_of (code_refused w s h))
-
   module _ {n : ℕ} {s₁ : List ℕ} (h₁ : count_of 8 1 s ≡ Ok n) (r₁ : s₁ ≡ drop (4 + n * 8) s) where
-    pub edges_end : {why : Refusal} → count_of (2 * w) 0 s₁ ≡ Err why → Err why ≡ held_of (read_of w s)
-    edges_end h = sym (ap held_of (edges_refused w s h₁ (count_there (2 * w) 0 r₁ h)))
-
     module _ {e : ℕ} {s₂ : List ℕ} (h₂ : count_of (2 * w) 0 s₁ ≡ Ok e) (r₂ : s₂ ≡ drop (4 + e * (2 * w)) s₁) where
       abbrev data_at : ℕ
       data_at = 4 + n * 8 + (4 + e * (2 * w))
@@ -32,9 +26,6 @@ module _ (w : ℕ) (s : List ℕ) where
 
       there : s₂ ≡ drop data_at s
       there = r₂ ∙ ap (drop (4 + e * (2 * w))) r₁ ∙ drop-drop (4 + e * (2 * w)) (4 + n * 8) s
-
-      pub data_ends : {why : Refusal} → count_of 8 0 s₂ ≡ Err why → Err why ≡ held_of (read_of w s)
-      data_ends h = sym (ap held_of (data_refused w s h₁ edges_there (count_there 8 0 there h)))
 
       module _ {d : ℕ} {s₃ : List ℕ} (h₃ : count_of 8 0 s₂ ≡ Ok d) (r₃ : s₃ ≡ drop (4 + d * 8) s₂) where
         data_there : count_of 8 0 (drop data_at s) ≡ Ok d

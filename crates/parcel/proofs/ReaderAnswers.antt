@@ -13,11 +13,9 @@ use borrow.Rule.Slice.PartMut.{put_mid, post_of}
 use Rattle.lists.proofs.Bools.{clash}
 use Rattle.answers.specs.declared.Refusal.{Refusal}
 use Rattle.answers.specs.declared.Place.{Place}
-use Rattle.answers.specs.declared.Fault.{Fault}
 use Rattle.answers.specs.Faults.{fault}
-use Rattle.std.specs.Prelude.{Result, Ok, Err, MatchResult}
+use Rattle.std.specs.Prelude.{Ok, Err}
 use Rattle.parcel.specs.declared.reader.Counts.{Counts}
-use Rattle.parcel.specs.Inner.{held_of}
 use Rattle.parcel.specs.Bytes.{numbers_of}
 use Rattle.lists.specs.Places.{put_over}
 use Rattle.parcel.specs.Parcel.{Read, counts, Content, holds, refused, read_of, counts_of, room_for, memory_in, edges_in, ReadSo}
@@ -32,10 +30,6 @@ pub record Whole (w : ℕ) (s : List ℕ) (n e d : ℕ) : Type 0 where
   pub code_limit : n ≤ 2048
   pub edge_limit : e ≤ 2048
   pub data_limit : d ≤ 2048
-
--- the bytes of the edges are few
-pub pairs_small : {w : ℕ} {s : List ℕ} {n e d : ℕ} → Whole w s n e d → w ≤ 8 → e * (2 * w) ≤ 32768
-pairs_small {w} h l = let m = mul-le-mul_right (2 * w) h.edge_limit in omega (arith, m)
 
 whole_from : (w : ℕ) (s : List ℕ) (t : Sectioned w s) → Whole w s t.n t.e t.d
 whole_from w s t =
@@ -71,11 +65,6 @@ held w s (refused why) p h = clash (cc)
 pub whole : (w : ℕ) (s : List ℕ) {n e d : ℕ} → counts_of (read_of w s) ≡ Ok (counts n e d) → Whole w s n e d
 whole w s h = whole_told w s (held w s (read_of w s) refl h) h
 
--- what the sections hold, with a fault for the refusal
-pub counts_nowhere : (x : Content) {r : Result Counts Fault} → MatchResult (held_of x) (λ k. r ≡ Ok k) (λ why. r ≡ Err (fault why Place.Nowhere)) → r ≡ counts_of x
-counts_nowhere (holds code edges words) h = h
-counts_nowhere (refused why) h = h
-
 -- ---- the room that is lent: what is answered
 
 module _ {w : ℕ} {s : List ℕ} {n e d : ℕ} (h : Whole w s n e d) (m g : ℕ) where
@@ -95,17 +84,21 @@ counts_read (holds code edges words) m g h =
     (room_made (ltb m (length code + length words) || ltb g (length edges)) (counts_of (holds code edges words)) h).1
 counts_read (refused why) m g h = sym h
 
+-- where a number of an edge has at most 8 bytes, those of all edges are few
 pub record Fitting (w : ℕ) (s : List ℕ) (m g n e d : ℕ) : Type 0 where
   pub all : Whole w s n e d
+  pub few : e * (2 * w) ≤ 32768
   pub words : n + d ≤ m
   pub numbers : e * 2 ≤ g
 
-pub fitting : (w : ℕ) (s : List ℕ) (m g : ℕ) {n e d : ℕ} → Ok (counts n e d) ≡ room_for m g (read_of w s) → Fitting w s m g n e d
-fitting w s m g {n} {e} {d} h =
+-- the code reads the width v, of which w is the meaning
+pub fitting : {v w : ℕ} (s : List ℕ) (m g : ℕ) {n e d : ℕ} → v ≡ w → w ≤ 8 → Ok (counts n e d) ≡ room_for m g (read_of w s) → Fitting v s m g n e d
+fitting {v} {w} s m g {n} {e} {d} same small h =
     let t = whole w s (counts_read (read_of w s) m g h) in
     let short = (room_made (ltb m (n + d) || ltb g (e * 2)) (Ok (counts n (e * 2 / 2) d)) (simp (t.is, length_numbers) at h)).0 in
     let f = neither (ltb m (n + d)) (ltb g (e * 2)) short in
-    record { all = t; words = ltb-false m (n + d) f.0; numbers = ltb-false g (e * 2) f.1 }
+    let few = mul-le-mul_right (2 * w) t.edge_limit in
+    rw same record { all = t; few = omega (arith, few, small); words = ltb-false m (n + d) f.0; numbers = ltb-false g (e * 2) f.1 }
 
 -- ---- what is put
 
@@ -125,14 +118,15 @@ put_after code words m {m₁} {part} n e h q r =
     ∙ sym (append_assoc code words (drop (length words) (drop (length code) m)))
     ∙ ap (λ (a : List ℕ). (code ++ words) ++ a) (drop-drop (length words) (length code) m ∙ ap (λ (j : ℕ). drop j m) (sym (length-append code words)))
 
-module _ {w : ℕ} {s m g : List ℕ} where
-  pub read_put : {n e d : ℕ} {m' g' : List ℕ} → Ok (counts n e d) ≡ room_for (length m) (length g) (read_of w s)
-      → m' ≡ put_over (numbers_of 8 n (drop 4 s) ++ numbers_of 8 d (drop (12 + n * 8 + e * (2 * w)) s)) m → g' ≡ put_over (numbers_of w (e * 2) (drop (8 + n * 8) s)) g
-      → ReadSo w s m g (Ok (counts n e d)) m' g'
-  read_put h a b =
-      let t = (fitting w s (length m) (length g) h).all in
-      record {
-        answers = h;
-        memory = a ∙ ap (λ (x : Content). put_over (memory_in x) m) (sym t.is);
-        edges = b ∙ ap (λ (x : Content). put_over (edges_in x) g) (sym t.is);
-      }
+pub read_put : {v w : ℕ} {s m g m' g' : List ℕ} {k n e d : ℕ} → k ≡ length g → v ≡ w → Ok (counts n e d) ≡ room_for (length m) k (read_of w s)
+    → m' ≡ put_over (numbers_of 8 n (drop 4 s) ++ numbers_of 8 d (drop (12 + n * 8 + e * (2 * v)) s)) m → g' ≡ put_over (numbers_of w (e * 2) (drop (8 + n * 8) s)) g
+    → ReadSo w s m g (Ok (counts n e d)) m' g'
+read_put {v} {w} {s} {m} {g} {k = k} {n} {e} {d} long same h a b =
+    let h' : Ok (counts n e d) ≡ room_for (length m) (length g) (read_of w s) = h ∙ ap (λ (i : ℕ). room_for (length m) i (read_of w s)) long in
+    let t : Whole w s n e d = whole w s (counts_read (read_of w s) (length m) (length g) h') in
+    record {
+      answers = h';
+      memory = (a ∙ ap (λ (u : ℕ). put_over (numbers_of 8 n (drop 4 s) ++ numbers_of 8 d (drop (12 + n * 8 + e * (2 * u)) s)) m) same)
+          ∙ ap (λ (x : Content). put_over (memory_in x) m) (sym t.is);
+      edges = b ∙ ap (λ (x : Content). put_over (edges_in x) g) (sym t.is);
+    }

@@ -1,10 +1,11 @@
--- Numbers one after another, over the width: the loops that read and that write them. At the head of a loop, what is still to be stored makes the whole.
+-- Numbers one after another, over the width: the loops that read and that write them. At the head of a loop, what is still to be stored
+-- makes the whole.
 use mathlib.Core.Path.{◌≡◌, refl, sym, ap, ap₂, ◌∙◌}
 use mathlib.Core.List.{List, [], ◌∷◌}
 use Prim.Native.Nat.{ℕ, zero, suc, ◌+◌, ◌-◌, ◌*◌, ◌≤◌, ◌<◌}
 use native.Mathlib.Omega.{arith}
 use native.Mathlib.Numerals.{add-one}
-use native.Mathlib.Nat.{add-zero, zero-mul, suc-mul, sub-zero, add_comm, mul-le-mul_right}
+use native.Mathlib.Nat.{zero-mul, suc-mul, add_comm}
 use lib.ListN.{length, get_or, drop, set, length-set, length-append, drop_of_length-le}
 use lib.Seq.{drop-drop, drop-cons, sets, length-sets}
 use Rattle.parcel.specs.Bytes.{number_of, bytes_of, numbers_of, all_bytes_of}
@@ -24,10 +25,6 @@ length_all_bytes w (x ∷ xs) =
     length-append (bytes_of w x) (all_bytes_of w xs) ∙ ap₂ (λ (a b : ℕ). a + b) (length_bytes w x) (length_all_bytes w xs)
     ∙ add_comm w (length xs * w) ∙ sym (suc-mul (length xs) w)
 
--- a number of a run stands within it
-pub run_room : (w i k at n : ℕ) → i < k → at + k * w ≤ n → at + i * w + w ≤ n
-run_room w i k at n l h = let m : suc i * w ≤ k * w = mul-le-mul_right w l in omega (arith, m, suc-mul i w)
-
 -- reading: i of the k numbers of w bytes in s from at are stored
 pub record Reading (w : ℕ) (s : List ℕ) (at k : ℕ) (to₀ to : List ℕ) (i : ℕ) : Type 0 where
   pub within : i ≤ k
@@ -35,11 +32,6 @@ pub record Reading (w : ℕ) (s : List ℕ) (at k : ℕ) (to₀ to : List ℕ) (
   pub long : length to ≡ length to₀
 
 module _ {w : ℕ} {s : List ℕ} {at k : ℕ} where
-  pub reading_starts : {to : List ℕ} → Reading w s at k to to 0
-  reading_starts {to} =
-      let e : at + 0 * w ≡ at = ap (λ (n : ℕ). at + n) (zero-mul w) ∙ add-zero at in
-      record { within = omega arith; same = rw (e, sub-zero); long = refl }
-
   pub reading_goes_on : {to₀ to : List ℕ} {i x : ℕ} → Reading w s at k to₀ to i → i < k → x ≡ number_of w (drop (at + i * w) s) → Reading w s at k to₀ (set to i x) (i + 1)
   unfolding numbers_of
   reading_goes_on {to₀} {to} {i} {x} inv h q =
@@ -67,11 +59,6 @@ pub record Writing (w : ℕ) (xs : List ℕ) (at : ℕ) (s₀ s : List ℕ) (i :
   pub long : length s ≡ length s₀
 
 module _ {w : ℕ} {xs : List ℕ} {at : ℕ} where
-  pub writing_starts : {s : List ℕ} → Writing w xs at s s 0
-  writing_starts {s} =
-      let e : at + 0 * w ≡ at = ap (λ (n : ℕ). at + n) (zero-mul w) ∙ add-zero at in
-      record { within = omega arith; same = rw e; long = refl }
-
   pub writing_goes_on : {s₀ s s' : List ℕ} {i : ℕ} → Writing w xs at s₀ s i → i < length xs → s' ≡ sets s (at + i * w) (bytes_of w (get_or xs i 0)) → Writing w xs at s₀ s' (i + 1)
   unfolding all_bytes_of
   writing_goes_on {s₀} {s} {s'} {i} inv h q =

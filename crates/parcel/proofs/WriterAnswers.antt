@@ -17,6 +17,7 @@ use Rattle.std.specs.Prelude.{Option, Some, None, Ok, Err}
 use Rattle.answers.proofs.Shape.{shaped}
 use Rattle.lists.specs.Places.{shorter, put_over}
 use Rattle.lists.specs.Search.{first}
+use Rattle.lists.proofs.First.{first_lowest}
 use Rattle.graph.specs.Claim.{edge_count}
 use Rattle.rising.specs.Rising.{not_rising, first_not_rising}
 use Rattle.parcel.specs.Parcel.{Written, parcel_of, written_of, WrittenSo}
@@ -71,7 +72,7 @@ module _ (w : ℕ) (m : List ℕ) (n : ℕ) (g s : List ℕ) where
         → a ≡ written_of (call_shaped (length m) n (length g)) g (shorter s (length bytes)) bytes
     as_planned e =
         rw (h, size_is)
-        (e ∙ ap (λ (f : Option ℕ). planned_of (length m) n (length g) f w (length s)) q
+        (e ∙ ap (λ (f : Option ℕ). planned_of (length m) n (length g) f w (length s)) (q ∙ first_lowest (not_rising g) (edge_count g))
         ∙ planned_first (ltb (first_not_rising g) (edge_count g)) (first_not_rising g) (length m) n (length g) w (length s))
 
     pub not_written : {f : Fault} → Err f ≡ planned_of (length m) n (length g) at w (length s) → WrittenSo w m n g s (Err f) s

@@ -1,5 +1,7 @@
-// Numbers in bytes, low byte first: a number of two, four or eight bytes is two numbers of half as many.
-ghost use Rattle.std.specs.Prelude.{◌≡◌, ◌+◌, ◌*◌, ◌≤◌, ℕ, length, drop};
+// Numbers of two, four or eight bytes, low byte first.
+// A slice and a place in it go together. Writing: a part of a `&mut` slice that is lent on would make a contract speak of two places, and
+// as parameters each clause speaks of the whole. Reading: a slice from at for each number would test its bounds twice, and be no plainer.
+ghost use Rattle.std.specs.Prelude.{◌≡◌, ◌+◌, ◌*◌, ◌≤◌, ℕ, length, take, drop};
 ghost use Rattle.std.proofs.Common.{lit≤};
 ghost use Rattle.std.proofs.lemmas.List.Edits.{sets};
 ghost use Rattle.parcel.specs.Bytes.{number_of, bytes_of, numbers_of, all_bytes_of};
@@ -27,8 +29,6 @@ pub(crate) trait Stored: Number {
     ghost small: { WIDTH ≤ 8 };
 }
 
-// `from_le_bytes` and `to_le_bytes` go by an array of bytes for each width, and would need a law of their own here for each; halves go by
-// one law over the width.
 impl InBytes for u16 {}
 
 impl Stored for u16 {
@@ -36,13 +36,14 @@ impl Stored for u16 {
 
     ghost WIDTH = { 2 };
 
+    #[tactic(auto, using(crate::proofs::Numbers::number_read))]
     fn read(s: &[u8], at: usize) -> u16 {
-        s[at] as u16 + s[at + 1] as u16 * 256
+        u16::from_le_bytes(bytes_at(s, at))
     }
 
+    #[tactic(auto, using(crate::proofs::Numbers::number_put))]
     fn write(self, s: &mut [u8], at: usize) {
-        s[at] = (self % 256) as u8;
-        s[at + 1] = (self / 256) as u8;
+        s[at..at + 2].copy_from_slice(&self.to_le_bytes());
     }
 
     ghost small = { lit≤ tt };
@@ -55,13 +56,14 @@ impl Stored for u32 {
 
     ghost WIDTH = { 4 };
 
+    #[tactic(auto, using(crate::proofs::Numbers::number_read))]
     fn read(s: &[u8], at: usize) -> u32 {
-        u16::read(s, at) as u32 + u16::read(s, at + 2) as u32 * 65536
+        u32::from_le_bytes(bytes_at(s, at))
     }
 
+    #[tactic(auto, using(crate::proofs::Numbers::number_put))]
     fn write(self, s: &mut [u8], at: usize) {
-        ((self % 65536) as u16).write(s, at);
-        ((self / 65536) as u16).write(s, at + 2);
+        s[at..at + 4].copy_from_slice(&self.to_le_bytes());
     }
 
     ghost small = { lit≤ tt };
@@ -74,20 +76,28 @@ impl Stored for u64 {
 
     ghost WIDTH = { 8 };
 
+    #[tactic(auto, using(crate::proofs::Numbers::number_read))]
     fn read(s: &[u8], at: usize) -> u64 {
-        u32::read(s, at) as u64 + u32::read(s, at + 4) as u64 * 4294967296
+        u64::from_le_bytes(bytes_at(s, at))
     }
 
+    #[tactic(auto, using(crate::proofs::Numbers::number_put))]
     fn write(self, s: &mut [u8], at: usize) {
-        ((self % 4294967296) as u32).write(s, at);
-        ((self / 4294967296) as u32).write(s, at + 4);
+        s[at..at + 8].copy_from_slice(&self.to_le_bytes());
     }
 
     ghost small = { lit≤ tt };
 }
 
+// The N bytes from at.
+fn bytes_at<const N: usize>(s: &[u8], at: usize) -> [u8; N]
+    requires { at + N ≤ length s.now }
+    ensures { result ≡ take N (drop at s.now) }
+{
+    s[at..at + N].try_into().unwrap()
+}
+
 // The k numbers from at, into the front of to.
-#[tactic(auto, using(crate::proofs::Runs::reading_starts, crate::proofs::Runs::reading_ends, crate::proofs::Runs::run_room))]
 pub(crate) fn numbers_into<N: InBytes>(s: &[u8], at: usize, k: usize, to: &mut [N])
     requires { (at + k * N.WIDTH ≤ length s.now) × (k ≤ length to.old) }
     ensures { N.numbers to.new ≡ put_over (numbers_of N.WIDTH k (drop at s.now)) (N.numbers to.old) }
@@ -98,7 +108,6 @@ pub(crate) fn numbers_into<N: InBytes>(s: &[u8], at: usize, k: usize, to: &mut [
 }
 
 // The numbers xs, from at on.
-#[tactic(auto, using(crate::proofs::Runs::writing_starts, crate::proofs::Runs::writing_goes_on, crate::proofs::Runs::writing_ends, crate::proofs::Runs::run_room))]
 pub(crate) fn put_numbers<N: InBytes>(s: &mut [u8], at: usize, xs: &[N])
     requires { at + length xs.now * N.WIDTH ≤ length s.old }
     ensures { s.new ≡ sets s.old at (all_bytes_of N.WIDTH (N.numbers xs.now)) }

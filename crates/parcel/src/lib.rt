@@ -28,7 +28,10 @@ pub enum Edition {
 pub fn counts(edition: Edition, parcel: &[u8]) -> Result<Counts, Fault>
     ensures { result ≡ counts_of (read_of (width_of edition) parcel.now) }
 {
-    reader::held(parcel, width(edition))
+    match edition {
+        Edition::First => reader::held::<u16>(parcel),
+        Edition::Second => reader::held::<u32>(parcel),
+    }
 }
 
 // Reads a parcel: code, and data directly after it, into the memory, and edge numbers into the edges. Nothing is put anywhere
@@ -40,12 +43,11 @@ pub fn read_parcel<E: EdgeNumber + InBytes>(
 ) -> Result<Counts, Fault>
     ensures { ReadSo E.WIDTH parcel.now memory.old (E.numbers edges.old) result memory.new (E.numbers edges.new) }
 {
-    let width = E::WIDTH;
-    let found = room_for(parcel, width, memory.len(), edges.len())?;
+    let found = room_for::<E>(parcel, memory.len(), edges.len())?;
     memory_into(
         parcel,
         found.code,
-        12 + found.code * 8 + found.edges * (2 * width),
+        12 + found.code * 8 + found.edges * (2 * E::WIDTH),
         found.data,
         memory,
     );
@@ -62,44 +64,33 @@ pub fn write_parcel<E: EdgeNumber + InBytes>(
 ) -> Result<usize, Fault>
     ensures { WrittenSo E.WIDTH memory.now n (E.numbers edges.now) parcel.old result parcel.new }
 {
-    let width = E::WIDTH;
     let len = memory.len();
     let numbers = edges.len();
     if !answers::call_shaped(len, n, numbers) {
         return Err(Fault::nowhere(Refusal::Shape));
     }
     let first = rising::first_not_rising(edges);
-    let size = planned(len, n, numbers, first, width, parcel.len())?;
+    let size = planned::<E>(len, n, numbers, first, parcel.len())?;
     put_section(parcel, 0, 1, &memory[..n]);
     put_section(parcel, 4 + n * 8, 2, edges);
-    put_section(parcel, 8 + n * 8 + numbers * width, 1, &memory[n..]);
+    put_section(parcel, 8 + n * 8 + numbers * E::WIDTH, 1, &memory[n..]);
     Ok(size)
 }
 
-// How many bytes an edge number has.
-fn width(edition: Edition) -> usize
-    ensures { (result ≡ width_of edition) × (result ≤ 8) }
+// What reading answers where places for so many words and edge numbers are lent.
+fn room_for<E: InBytes>(parcel: &[u8], words: usize, numbers: usize) -> Result<Counts, Fault>
+    ensures { result ≡ room_for words numbers (read_of E.WIDTH parcel.now) }
 {
-    match edition {
-        Edition::First => 2,
-        Edition::Second => 4,
-    }
-}
-
-// That a number has at most 8 bytes is asked where the width is a number: a type for widths would be read once, here and in the reader.
-// What reading answers where so many words and edge numbers are lent.
-fn room_for(parcel: &[u8], width: usize, words: usize, numbers: usize) -> Result<Counts, Fault>
-    requires { width ≤ 8 }
-    ensures { result ≡ room_for words numbers (read_of width parcel.now) }
-{
-    let found = reader::held(parcel, width)?;
+    let found = reader::held::<E>(parcel)?;
     if words < found.code + found.data || numbers < found.edges * 2 {
         return Err(Fault::nowhere(Refusal::PlaceTooShort));
     }
     Ok(found)
 }
 
-// The code words from 4 on, and directly after them the data words from at on, into the front of the memory.
+// The code words from 4 on, and directly after them the data words from at on, into the front of the memory. `at` is a
+// parameter, since where data begins depends on the width of edge numbers.
+#[tactic(auto, using(crate::proofs::ReaderAnswers::put_after, crate::proofs::Runs::length_numbers))]
 fn memory_into(parcel: &[u8], code: usize, at: usize, words: usize, memory: &mut [u64])
     requires { (4 + code * 8 ≤ length parcel.now) × (at + words * 8 ≤ length parcel.now) × (code + words ≤ length memory.old) }
     ensures { memory.new ≡ put_over (numbers_of 8 code (drop 4 parcel.now) ++ numbers_of 8 words (drop at parcel.now)) memory.old }
@@ -108,18 +99,17 @@ fn memory_into(parcel: &[u8], code: usize, at: usize, words: usize, memory: &mut
     bytes::numbers_into(parcel, at, words, &mut memory[code..]);
 }
 
-// What writing answers, where the first edge that doesn't rise is known, a number of an edge has so many bytes, and the place
-// has so much room.
-fn planned(
+// What writing answers: 18 with the first edge that doesn't rise, 5 where the parcel is longer than the room, or how many bytes it has.
+// Lengths in place of the slices, as `call_shaped` has them: nothing is read of what is in them.
+fn planned<E: InBytes>(
     len: usize,
     n: usize,
     numbers: usize,
     first: Option<usize>,
-    width: usize,
     room: usize,
 ) -> Result<usize, Fault>
-    requires { WellShaped len n numbers × (width ≤ 8) }
-    ensures { result ≡ planned_of len n numbers first width room }
+    requires { WellShaped len n numbers }
+    ensures { result ≡ planned_of len n numbers first E.WIDTH room }
 {
     if let Some(edge) = first {
         return Err(Fault {
@@ -127,7 +117,7 @@ fn planned(
             place: Place::Edge(edge),
         });
     }
-    let size = 4 + n * 8 + (4 + numbers * width) + (4 + (len - n) * 8);
+    let size = 4 + n * 8 + (4 + numbers * E::WIDTH) + (4 + (len - n) * 8);
     if room < size {
         return Err(Fault::nowhere(Refusal::PlaceTooShort));
     }
@@ -135,7 +125,6 @@ fn planned(
 }
 
 // A section from at on: the count of its items, which are so many numbers each, then the numbers.
-#[tactic(auto, using(crate::proofs::Sections::section_put))]
 fn put_section<N: InBytes>(s: &mut [u8], at: usize, each: usize, xs: &[N])
     requires { (at + (4 + length xs.now * N.WIDTH) ≤ length s.old) × (length xs.now ≤ 4096) × (1 ≤ each) }
     ensures { s.new ≡ sets s.old at (section_of N.WIDTH each (N.numbers xs.now)) }

@@ -3,7 +3,7 @@ ghost use Rattle.std.specs.Prelude.{◌≡◌, ◌+◌, ◌*◌, ◌≤◌, drop
 ghost use Rattle.parcel.specs.Parcel.{count_of, read_of, counts_of};
 ghost use Rattle.parcel.specs.Inner.{held_of};
 
-use crate::bytes::Stored;
+use crate::bytes::{InBytes, Stored};
 use answers::{Fault, Refusal};
 
 // How many code words, edges and data words a parcel holds.
@@ -14,22 +14,20 @@ pub struct Counts {
     pub data: usize,
 }
 
-// What a parcel holds, whose edge numbers have so many bytes, or why it is refused.
-#[tactic(auto, using(crate::proofs::ReaderAnswers::counts_nowhere))]
-pub(crate) fn held(parcel: &[u8], width: usize) -> Result<Counts, Fault>
-    requires { width ≤ 8 }
-    ensures { result ≡ counts_of (read_of width parcel.now) }
+// What a parcel of the edition that has such edge numbers holds, or why it is refused.
+pub(crate) fn held<E: InBytes>(parcel: &[u8]) -> Result<Counts, Fault>
+    ensures { result ≡ counts_of (read_of E.WIDTH parcel.now) }
 {
-    sections(parcel, width).map_err(Fault::nowhere)
+    sections::<E>(parcel).map_err(Fault::nowhere)
 }
 
 // The counts of the three sections, each read where the one before it ends.
-fn sections(parcel: &[u8], width: usize) -> Result<Counts, Refusal>
-    requires { width ≤ 8 }
-    ensures { result ≡ held_of (read_of width parcel.now) }
+#[tactic(auto, using(crate::proofs::Held::bytes_follow, crate::proofs::Held::all_held), unfolding(crate::specs::Parcel::read_of, crate::specs::Parcel::section_from))]
+fn sections<E: InBytes>(parcel: &[u8]) -> Result<Counts, Refusal>
+    ensures { result ≡ held_of (read_of E.WIDTH parcel.now) }
 {
     let (code, rest) = section(parcel, 8, 1)?;
-    let (edges, rest) = section(rest, 2 * width, 0)?;
+    let (edges, rest) = section(rest, 2 * E::WIDTH, 0)?;
     let (data, rest) = section(rest, 8, 0)?;
     if !rest.is_empty() {
         return Err(Refusal::TrailingBytes);

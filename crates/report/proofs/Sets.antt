@@ -22,7 +22,7 @@ use Rattle.graph.specs.Rules.{sets_differ}
 use Rattle.graph.proofs.Edges.{has_edge_lem, edge_below, id_below}
 use Rattle.report.specs.declared.Freedom.{Freedom}
 use Rattle.report.specs.Figures.{words_of_kind, freedom_by, set_size, is_new_set, sets_of, highest, largest_of, figures_of}
-use Rattle.report.specs.Inside.{label_at, set_at, times_in, labels_of, jumps_of, figures_read, Readable, Held, Counted, number_or}
+use Rattle.report.specs.Inside.{label_at, set_at, times_in, labels_of, jumps_of, figures_read, Held, Counted, number_or}
 use Rattle.report.proofs.Sums.{highest_ext, highest_above, highest_least, any_count, is_new, new_count, fold_highest, count_by_count}
 use Rattle.report.proofs.AsListed.{distinct_listed}
 
@@ -46,9 +46,6 @@ set_number edges n j = cond (has_edge edges j) (id_of edges n j + 1) 0
 
 -- ---- what the words say of a program that is held
 module _ (memory : List ℕ) (n : ℕ) (edges : List ℕ) (h : Held memory n edges) where
-  pub readable : Readable memory n
-  readable = record { sized = h.sized; guarded = h.guarded }
-
   set_is : (j : ℕ) → j < n → set_at memory n j ≡ set_id edges n j
   set_is j l = go (is_jump (instr_at memory j)) refl
     where

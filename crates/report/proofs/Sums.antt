@@ -92,7 +92,7 @@ tally_new n l =
       each = λ j q. get_or-take n (replicate 2048 0) j 0 q ∙ get_or-replicate {A = ℕ} 2048 j 0 0 (omega arith);
     }
 
-pub tally_as : {xs : List ℕ} {n : ℕ} {F : ℕ → ℕ} (G : ℕ → ℕ) → Tally xs n F → ((j : ℕ) → j < n → F j ≡ G j) → Tally xs n G
+tally_as : {xs : List ℕ} {n : ℕ} {F : ℕ → ℕ} (G : ℕ → ℕ) → Tally xs n F → ((j : ℕ) → j < n → F j ≡ G j) → Tally xs n G
 tally_as G h e = record { size = h.size; each = λ j l. h.each j l ∙ e j l }
 
 tally_set : {xs : List ℕ} {n : ℕ} {F : ℕ → ℕ} (G : ℕ → ℕ) (i v : ℕ) → Tally xs n F → i < n → v ≡ G i

@@ -28,7 +28,7 @@ pub struct Figures {
 }
 
 // The figures of a program that the checker accepts, or its first fault.
-#[tactic(auto, using(crate::proofs::Held::held, crate::proofs::Sets::readable, crate::proofs::Sets::figures_are, crate::proofs::Reports::accepted_report, crate::proofs::Reports::refused_report))]
+#[tactic(auto, using(crate::proofs::Held::held, crate::proofs::Sets::figures_are, crate::proofs::Reports::accepted_report, crate::proofs::Reports::refused_report))]
 pub fn report(
     technique: Technique,
     memory: &[u64],

@@ -6,7 +6,7 @@ ghost use Rattle.report.specs.Figures.{kinds_of, freedom_by};
 ghost use Rattle.report.specs.Inside.{Readable, Tally, Counted, number_or, set_number, one_more, figures_read};
 
 use crate::{Figures, Freedom};
-use isa::{Kind, is_a, kind_of_word, label_number};
+use isa::{Fields, Kind, is_a, kind_of_word, label_number};
 
 // The code of an accepted program, the first n words of its memory.
 #[derive(Clone, Copy)]
@@ -47,7 +47,7 @@ impl Code<'_> {
     }
 
     // Counts the words by their kinds, the labels by their numbers, and the jumps by the IDs of their sets.
-    #[tactic(auto, using(crate::proofs::Sums::tally_as, crate::proofs::ByKind::kinds_none, crate::proofs::Sums::times_none))]
+    #[tactic(auto, using(crate::proofs::ByKind::kinds_none, crate::proofs::Sums::times_none))]
     fn count_words(&self, labels: &mut [u16], jumps: &mut [u16]) -> [u16; 10]
         requires { Tally labels.old self.now.n (λ _. 0) × Tally jumps.old self.now.n (λ _. 0) }
         ensures { Counted self.now.memory.now self.now.n self.now.n result labels.new jumps.new }
@@ -62,7 +62,7 @@ impl Code<'_> {
     }
 
     // Counts the word at a, after those before it: an opcode is its kind's place, and illegal words are last.
-    #[tactic(auto, using(crate::proofs::ByKind::row_count, crate::proofs::ByKind::kind_max, crate::proofs::ByKind::kinds_step))]
+    #[tactic(auto, using(crate::proofs::ByKind::kind_max, crate::proofs::ByKind::kinds_step))]
     fn count_kind(&self, kinds: &mut [u16; 10], a: usize)
         requires { (a < self.now.n) × (kinds.old ≡ kinds_of self.now.memory.now a) }
         ensures { kinds.new ≡ kinds_of self.now.memory.now (a + 1) }
@@ -77,7 +77,7 @@ impl Code<'_> {
         ensures { result ≡ set_number self.now.memory.now j }
     {
         if is_a(Kind::Jmp, self.memory[j]) {
-            return Some((self.memory[j - 3] % 0x1_0000_0000) as usize);
+            return Some(Fields::of_word(self.memory[j - 3]).w as usize);
         }
         None
     }

@@ -7,9 +7,7 @@ use native.Mathlib.Omega.{arith}
 use native.Mathlib.Numerals.{add-one}
 use native.Mathlib.Decide.{ℕ_discrete}
 use lib.ListN.{length, get_or, set, take, drop, length-set}
-use lib.Seq.{sets, sets-eq, length-sets, take-suc, get_or-set_same, get_or-set_other}
-use Rattle.std.proofs.Common.{append_assoc}
-use Rattle.std.proofs.lemmas.List.{drop-drop}
+use lib.Seq.{sets, length-sets, take-suc, get_or-set_same, get_or-set_other}
 use Rattle.lists.specs.Tables.{Table}
 use Rattle.lists.proofs.Places.{sets_append, over_front}
 use Rattle.isa.specs.declared.Technique.{Technique}
@@ -19,18 +17,21 @@ use Rattle.guarded.specs.Rewrite.{block_size, new_edge}
 use Rattle.guarded.proofs.Blocks.{start_next, laid_length, sets_laid, ones_length}
 use Rattle.guarded.proofs.Places.{map_lt}
 use Rattle.guarded.proofs.Claims.{pair, start_pairs}
-use Rattle.rewrite.specs.Inside.{map_plain, Laid}
+use Rattle.rewrite.specs.Inside.{map_plain, Ready}
 
 -- the first a blocks are put
 pub record Putting (block : ℕ → List ℕ) (before out : List ℕ) (a : ℕ) : Type 0 where
   pub long : length out ≡ length before
   pub left : out ≡ sets before 0 (laid block a)
 
-module _ (block : ℕ → List ℕ) (size : ℕ → ℕ) (fit : (a : ℕ) → length (block a) ≡ size a) where
-  pub put_none : (before : List ℕ) → Putting block before before 0
-  unfolding laid
-  put_none before = record { long = refl; left = refl }
+pub put_none : (block : ℕ → List ℕ) (before : List ℕ) → Putting block before before 0
+unfolding laid
+put_none block before = record { long = refl; left = refl }
 
+pub put_all : {block : ℕ → List ℕ} {before out : List ℕ} {a m : ℕ} → Putting block before out a → a ≡ m → out ≡ sets before 0 (laid block m)
+put_all {block} {before} p e = p.left ∙ ap (λ (x : ℕ). sets before 0 (laid block x)) e
+
+module _ (block : ℕ → List ℕ) (size : ℕ → ℕ) (fit : (a : ℕ) → length (block a) ≡ size a) where
   pub put_more : {before out next : List ℕ} {a : ℕ} → Putting block before out a → next ≡ sets out (start_of size a) (block a)
       → Putting block before next (a + 1)
   put_more {before} {out} {next} {a} p e =
@@ -38,9 +39,6 @@ module _ (block : ℕ → List ℕ) (size : ℕ → ℕ) (fit : (a : ℕ) → le
         long = ap length e ∙ length-sets out (start_of size a) (block a) ∙ p.long;
         left = e ∙ ap (λ (l : List ℕ). sets l (start_of size a) (block a)) p.left ∙ sym (sets_laid block size fit before a);
       }
-
-  pub put_all : {before out : List ℕ} {a m : ℕ} → Putting block before out a → a ≡ m → out ≡ sets before 0 (laid block m)
-  put_all {before} {out} {a} {m} p e = p.left ∙ ap (λ (x : ℕ). sets before 0 (laid block x)) e
 
   -- and one number behind them
   pub end_put : {before out : List ℕ} {a m : ℕ} (at x : ℕ) → Putting block before out a → a ≡ m → at ≡ start_of size m
@@ -51,15 +49,10 @@ module _ (block : ℕ → List ℕ) (size : ℕ → ℕ) (fit : (a : ℕ) → le
       ∙ ap (λ (y : ℕ). set (sets before 0 (laid block m)) y x) q
       ∙ sym (sets_append (laid block m) (x ∷ []) before 0)
 
--- a part written over
-pub part_put : (xs l : List ℕ) (at : ℕ) → at + length xs ≤ length l → take at l ++ (xs ++ drop (length xs) (drop at l)) ≡ sets l at xs
-part_put xs l at h =
-    rw (drop-drop (length xs) at l, sets-eq xs l at h, append_assoc (take at l) xs (drop (at + length xs) l)) refl
-
 -- one edge more
-module _ (memory : List ℕ) (n : ℕ) (edges entries : List ℕ) (t : Table entries (n + 1) (map_plain memory n edges)) where
-  pub entry_above : (j : ℕ) → j < n → 1 ≤ get_or entries (j + 1) 0
-  entry_above j l = omega (arith, t.each (j + 1) (omega arith), map_lt Technique.Plain memory edges 0 (j + 1) (omega arith))
+module _ {memory : List ℕ} {n : ℕ} {edges : List ℕ} {total : ℕ} {entries ids own : List ℕ} (r : Ready memory n edges total entries ids own) where
+  pub entry_above : {j : ℕ} → j < n → 1 ≤ get_or entries (j + 1) 0
+  entry_above {j} l = omega (arith, r.entries_are.each (j + 1) (omega arith), map_lt Technique.Plain memory edges 0 (j + 1) (omega arith))
 
   pub edge_more : {before out : List ℕ} {k j x : ℕ} → Putting (new_edge Technique.Plain memory edges) before out k → j ≡ jump_of edges k → j < n
       → x ≡ target_of edges k → x < n
@@ -67,11 +60,11 @@ module _ (memory : List ℕ) (n : ℕ) (edges entries : List ℕ) (t : Table ent
   unfolding new_edge
   edge_more {before} {out} {k} {j} {x} p ej lj ex lx =
       put_more (new_edge Technique.Plain memory edges) (λ _. 2) (pair Technique.Plain memory edges) p
-      (rw (start_pairs k, t.each (j + 1) (omega arith), t.each x (omega arith), ej, ex, add-one, add-one) refl)
+      (rw (start_pairs k, r.entries_are.each (j + 1) (omega arith), r.entries_are.each x (omega arith), ej, ex, add-one, add-one) refl)
 
 -- one entry more
-pub table_grow : {xs : List ℕ} {n : ℕ} (F : ℕ → ℕ) (v : ℕ) → Table xs n F → n < 2048 → v ≡ F n → Table (set xs n v) (n + 1) F
-table_grow {xs} {n} F v h l e = record { size = length-set xs n v ∙ h.size; each = λ j q. go j q (ℕ_discrete j n) }
+pub table_grow : {xs : List ℕ} {n : ℕ} {F : ℕ → ℕ} {v : ℕ} → Table xs n F → n < 2048 → v ≡ F n → Table (set xs n v) (n + 1) F
+table_grow {xs} {n} {F} {v} h l e = record { size = length-set xs n v ∙ h.size; each = λ j q. go j q (ℕ_discrete j n) }
   where
     go : (j : ℕ) → j < n + 1 → Dec (j ≡ n) → get_or (set xs n v) j 0 ≡ F j
     go j q (yes p) =
@@ -85,27 +78,20 @@ pub record Entering (memory : List ℕ) (n : ℕ) (edges entries : List ℕ) (at
   pub small : at ≤ 7 * a
   pub filled : Table entries a (map_plain memory n edges)
 
-module _ (memory : List ℕ) (n : ℕ) (edges : List ℕ) where
-  pub entry_none : (entries : List ℕ) → length entries ≡ 2048 → Entering memory n edges entries 0 0
+module _ {memory : List ℕ} {n : ℕ} {edges : List ℕ} where
+  pub entry_none : {entries : List ℕ} → length entries ≡ 2048 → Entering memory n edges entries 0 0
   unfolding start_of
-  entry_none entries e =
+  entry_none e =
       record { upto = omega arith; next = refl; small = omega arith; filled = record { size = e; each = λ j l. absurd (omega arith) } }
 
-  pub entry_more : (entries : List ℕ) (at a size : ℕ) → n ≤ 2048 → Entering memory n edges entries at a → a < n
+  pub entry_more : {entries : List ℕ} {at a size : ℕ} → n ≤ 2048 → Entering memory n edges entries at a → a < n
       → (size ≡ block_size Technique.Plain memory edges a) × (size ≤ 7) → Entering memory n edges (set entries a at) (at + size) (a + 1)
-  entry_more entries at a size s m l z =
+  entry_more {entries} {at} {a} {size} s m l z =
       record {
         upto = omega arith;
         next = rw add-one (omega (arith, m.next, z.0, start_next (block_size Technique.Plain memory edges) a));
         small = omega (arith, m.small, z.1);
-        filled = table_grow (map_plain memory n edges) at m.filled (omega arith) m.next;
-      }
-
-  pub entry_all : (entries : List ℕ) (at a : ℕ) → Entering memory n edges entries at a → a ≡ n → Laid (at + 1) entries memory n edges
-  entry_all entries at a m e =
-      record {
-        total_is = ap (λ (x : ℕ). x + 1) (m.next ∙ ap (map_plain memory n edges) e);
-        entries_are = subst (λ (x : ℕ). Table entries x (map_plain memory n edges)) e m.filled;
+        filled = table_grow m.filled (omega arith) m.next;
       }
 
 -- the entries of the map are the front of the array
@@ -116,9 +102,9 @@ entries_front F xs (suc n) l h =
     take-suc xs n 0 (omega arith)
     ∙ (rw (entries_front F xs n (omega arith) (λ j q. h j (omega arith)), h n (omega arith)) refl)
 
-pub entries_put : (F : ℕ → ℕ) (xs l : List ℕ) (n : ℕ) → Table xs (n + 1) F → n < 2048 → n ≤ length l
+pub entries_put : {F : ℕ → ℕ} {xs : List ℕ} {n : ℕ} (l : List ℕ) → Table xs (n + 1) F → n < 2048 → n ≤ length l
     → take n xs ++ drop n l ≡ sets l 0 (laid (λ a. F a ∷ []) n)
-entries_put F xs l n t s h =
+entries_put {F} {xs} {n} l t s h =
     let e = entries_front F xs n (let z = t.size in omega arith) (λ j q. t.each j (omega arith)) in
     let z = ones_length F n in
     rw e (sym (over_front (laid (λ a. F a ∷ []) n) l (omega arith) ∙ ap (λ (k : ℕ). laid (λ a. F a ∷ []) n ++ drop k l) z))

@@ -59,9 +59,9 @@ addi_register : (rs : ℕ) → rs < 32 → encode_of (Instr.Addi 0 0 0) + rs * 2
 unfolding encode_of word_of
 addi_register rs h = rw (lt-ltb rs 32 h) (omega arith)
 
-pub first_small : (n : ℕ) → get_or (patterns.jump_words Technique.Plain n) 0 0 < 2 ^ 63
+pub first_small : (n : ℕ) {words : List ℕ} → words ≡ patterns.jump_words Technique.Plain n → get_or words 0 0 < 2 ^ 63
 unfolding encode_of word_of
-first_small n = omega arith
+first_small n e = rw e (omega arith)
 
 jump_register : (x : ℕ) → is_jump (decode_of x) ≡ true → ((fields_of (decode_of x)).a ≡ x / 2 ^ 48 % 256) × (x / 2 ^ 48 % 256 < 32)
 jump_register x h =

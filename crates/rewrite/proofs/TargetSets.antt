@@ -11,7 +11,7 @@ use lib.Dec.{eqb, ltb}
 use lib.ListN.{length, get_or, set, length-set}
 use lib.Seq.{get_or-set_same, get_or-set_other}
 use borrow.Author.Tests.{eq-eqb, ne_eqb, eqb-true, lt-ltb, le-ltb}
-use Rattle.lists.specs.Search.{lowest, bit}
+use Rattle.lists.specs.Search.{lowest}
 use Rattle.lists.specs.Tables.{Table}
 use Rattle.lists.proofs.Bools.{true_false}
 use Rattle.lists.proofs.Search.{Lowest, lowest_is, lowest_unique, lowest_ext, any_hit, any_witness}
@@ -21,10 +21,6 @@ use Rattle.graph.specs.Passes.{Within, Owned, edge_in}
 use Rattle.graph.proofs.Edges.{edge_none, edge_more, edge_at, id_hit}
 use Rattle.guarded.specs.Rewrite.{set_of}
 use Rattle.rewrite.specs.Inside.{id_in, OneId}
-
-pub bit_most : (b : Bool) → bit b ≤ 1
-bit_most true = omega arith
-bit_most false = omega arith
 
 -- one number more that passes a test
 lowest_least : (f : ℕ → Bool) (n x : ℕ) → x < n → min x (lowest f n) ≡ lowest (λ a. eqb x a || f a) n
@@ -71,17 +67,17 @@ module _ (edges : List ℕ) (n : ℕ) where
       ∙ lowest_ext _ _ n
       (λ t l. sym (edge_more edges k (jump_of edges k) t ∙ rw (eq-eqb (jump_of edges k) (jump_of edges k) refl)))
 
-  pub id_step : (ids : List ℕ) (k j t v : ℕ) → n ≤ 2048 → Table ids n (id_in edges n k) → j ≡ jump_of edges k → j < n → t ≡ target_of edges k
+  pub id_step : {ids : List ℕ} (k : ℕ) {j t v : ℕ} → n ≤ 2048 → Table ids n (id_in edges n k) → j ≡ jump_of edges k → j < n → t ≡ target_of edges k
       → t < n → v ≡ min (get_or ids j 0) t → Table (set ids j v) n (id_in edges n (k + 1))
-  id_step ids k j t v s h ej l et b ev =
+  id_step {ids} k {j} {t} {v} s h ej l et b ev =
       let turned : v ≡ min t (get_or ids j 0) = omega (arith, ev) in
       table_set (id_in edges n (k + 1)) j v h (omega arith)
       (turned ∙ rw (h.each j l, et, ej) (id_same k (omega arith)))
       (λ x q ne. id_other k x (λ e. ne (e ∙ sym ej)))
 
-  pub id_all : (m j : ℕ) → m ≡ edge_count edges → id_in edges n m j ≡ id_of edges n j
+  pub id_all : {m : ℕ} (j : ℕ) → m ≡ edge_count edges → id_in edges n m j ≡ id_of edges n j
   unfolding id_in edge_in id_of is_edge
-  id_all m j e = rw e
+  id_all j e = rw e
 
   -- the sets of the destinations, by the first k edges
   pub record Owning (k : ℕ) (own : List ℕ) : Type 0 where
@@ -89,12 +85,9 @@ module _ (edges : List ℕ) (n : ℕ) where
     pub held : (i : ℕ) → i < k → get_or own (target_of edges i) 0 ≡ id_of edges n (jump_of edges i)
     pub free : (a : ℕ) → a < n → ((i : ℕ) → i < k → target_of edges i ≢ a) → get_or own a 0 ≡ n
 
-  pub owning_none : (own : List ℕ) → Table own n (λ _. n) → Owning 0 own
-  owning_none own h = record { size = h.size; held = λ i l. absurd (omega arith); free = λ a l f. h.each a l }
-
-  pub owning_more : (own : List ℕ) (k t v : ℕ) → Within edges n → OneId edges n → k < edge_count edges → Owning k own → t ≡ target_of edges k
+  pub owning_more : {own : List ℕ} {k t v : ℕ} → Within edges n → OneId edges n → k < edge_count edges → Owning k own → t ≡ target_of edges k
       → v ≡ id_of edges n (jump_of edges k) → Owning (k + 1) (set own t v)
-  owning_more own k t v w one l h et ev =
+  owning_more {own} {k} {t} {v} w one l h et ev =
       record {
         size = length-set own t v ∙ h.size;
         held = λ i q. held i q (ℕ_discrete (target_of edges i) t);
@@ -120,9 +113,9 @@ module _ (edges : List ℕ) (n : ℕ) where
           before (yes z) = absurd (e (ap (target_of edges) z ∙ sym et))
           before (no z) = omega arith
 
-  pub owning_all : (own : List ℕ) (k : ℕ) → Within edges n → k ≡ edge_count edges → Owning k own → Owned edges n own
+  pub owning_all : {own : List ℕ} {k : ℕ} → Within edges n → k ≡ edge_count edges → Owning k own → Owned edges n own
   unfolding is_destination
-  owning_all own k w e h =
+  owning_all w e h =
       record {
         within = w;
         held = λ i l. h.held i (omega arith);

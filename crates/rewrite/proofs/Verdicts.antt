@@ -23,15 +23,15 @@ use Rattle.graph.specs.Passes.{Within}
 use Rattle.graph.proofs.Edges.{within_of, edge_below}
 use Rattle.graph.proofs.Apart.{apart_one}
 use Rattle.checker.specs.Verdicts.{first_broken, claim_rules}
-use Rattle.checker.proofs.Rules.{or_else, broken_append, sized, few_edges}
+use Rattle.std.specs.Result.{result_and}
+use Rattle.checker.proofs.Rules.{broken_append, sized, few_edges}
 use Rattle.checker.proofs.Faultless.{ClaimFaultless, claim_passed}
-use Rattle.guarded.specs.Rewrite.{Guarded}
 use Rattle.guarded.specs.Rules.{word_rules, bare_verdict_of, words_verdict_of}
 use Rattle.guarded.proofs.Blocks.{ones_length}
 use Rattle.guarded.proofs.Places.{code_length}
 use Rattle.guarded.proofs.Claims.{edges_length}
 use Rattle.guarded.proofs.Theorems.{guards_put_in}
-use Rattle.rewrite.specs.Answers.{Answer, places_short, Put, plain_of}
+use Rattle.rewrite.specs.Answers.{places_short, Put, plain_of}
 use Rattle.rewrite.specs.Inside.{OneId, Claim, length_plain, code_plain, edges_plain, entries_plain, map_plain, from_length, Bare, Laid, Ready}
 
 module _ (memory : List ℕ) (n : ℕ) (edges : List ℕ) where
@@ -59,25 +59,16 @@ module _ (memory : List ℕ) (n : ℕ) (edges : List ℕ) where
       }
 
   -- the verdict on bare code: the words', and then 22
-  after_words : bare_verdict_of Technique.Plain memory n edges ≡ or_else (words_verdict_of memory n edges) (first_broken (from_length memory n edges))
+  after_words : bare_verdict_of Technique.Plain memory n edges ≡ result_and (words_verdict_of memory n edges) (first_broken (from_length memory n edges))
   unfolding bare_verdict_of words_verdict_of
   after_words = broken_append (claim_rules memory n edges (word_rules memory n [])) (from_length memory n edges)
 
   pub words_kept : words_verdict_of memory n edges ≡ Ok tt
       → bare_verdict_of Technique.Plain memory n edges ≡ first_broken (from_length memory n edges)
-  words_kept e = after_words ∙ ap (λ (v : Verdict). or_else v (first_broken (from_length memory n edges))) e
+  words_kept e = after_words ∙ ap (λ (v : Verdict). result_and v (first_broken (from_length memory n edges))) e
 
   pub words_broken : {f : Fault} → words_verdict_of memory n edges ≡ Err f → bare_verdict_of Technique.Plain memory n edges ≡ Err f
-  words_broken e = after_words ∙ ap (λ (v : Verdict). or_else v (first_broken (from_length memory n edges))) e
-
--- a refusal leaves everything as it was
-pub refused_put : {verdict : Verdict} {f : Fault} (new : Guarded) (code edges entries : List ℕ) → verdict ≡ Err f
-    → Put verdict new code edges entries (Err f) code edges entries
-refused_put new code edges entries e = record { answers = rw e; code_after = refl; edges_after = refl; entries_after = refl }
-
-pub put_as : {verdict later : Verdict} {new : Guarded} {code edges entries : List ℕ} {answer : Answer} {code' edges' entries' : List ℕ} → verdict ≡ later
-    → Put later new code edges entries answer code' edges' entries' → Put verdict new code edges entries answer code' edges' entries'
-put_as e p = rw e p
+  words_broken e = after_words ∙ ap (λ (v : Verdict). result_and v (first_broken (from_length memory n edges))) e
 
 -- 22 leaves a place for the end of the last block
 pub laid_below : {total : ℕ} {entries memory : List ℕ} {n : ℕ} {edges : List ℕ} → Laid total entries memory n edges → total ≤ 2048 → n < 2048
@@ -88,7 +79,7 @@ pub ready_below : {memory : List ℕ} {n : ℕ} {edges : List ℕ} {total : ℕ}
 ready_below {memory} {n} {edges} r = omega (arith, r.total_is, r.short, guards_put_in.plain_length memory n edges)
 
 -- 5, and the three places written
-module _ (memory : List ℕ) (n : ℕ) (edges : List ℕ) (c : Claim memory n edges) (code new_edges entries : List ℕ) (total : ℕ)
+module _ {memory : List ℕ} {n : ℕ} {edges : List ℕ} (c : Claim memory n edges) (code new_edges entries : List ℕ) {total : ℕ}
     (t : total ≡ length_plain memory n edges) where
   short_is : places_short (plain_of memory n edges) code new_edges entries
       ≡ (ltb (length code) total || (ltb (length new_edges) (length edges) || ltb (length entries) n))

@@ -14,7 +14,6 @@ use isa::{Kind, is_a};
 
 impl BareCode<'_> {
     // Where each block begins, and the length of the new code. The sums stay below 7 times 2,048, so that 16 bits hold them.
-    #[tactic(auto, using(crate::proofs::Laying::entry_all))]
     pub(crate) fn fill_entries(&self, own: &[u16; 2048], entries: &mut [u16; 2048]) -> usize
         requires { Owned self.now.edges.now self.now.n own.now }
         ensures { Laid result entries.new self.now.memory.now self.now.n self.now.edges.now }
@@ -27,12 +26,12 @@ impl BareCode<'_> {
         at + 1
     }
 
-    #[tactic(auto, using(crate::proofs::TargetSets::destined, crate::proofs::TargetSets::bit_most))]
+    #[tactic(auto, using(crate::proofs::TargetSets::destined))]
     fn block_size(&self, own: &[u16; 2048], a: usize) -> usize
         requires { Owned self.now.edges.now self.now.n own.now × (a < self.now.n) }
         ensures { (result ≡ block_size Technique.Plain self.now.memory.now self.now.edges.now a) × (result ≤ 7) }
     {
-        usize::from(usize::from(own[a]) < self.n) + body_size(self.memory[a])
+        usize::from(self.owner_of(own, a).is_some()) + body_size(self.memory[a])
     }
 }
 
@@ -44,13 +43,12 @@ fn body_size(word: u64) -> usize
 
 impl Layout<'_> {
     // The edges, in their sequence: from the last word of the jump's block to the first of the target's.
-    #[tactic(auto, using(guarded::proofs::Claims::pair, crate::proofs::Laying::put_all))]
+    #[tactic(auto, using(crate::proofs::Laying::put_none))]
     pub(crate) fn put_edges(&self, new_edges: &mut [u16])
         requires { 2 * edge_count self.now.bare.edges.now ≤ length new_edges.old }
         ensures { new_edges.new ≡ sets new_edges.old 0 (edges_plain self.now.bare.memory.now self.now.bare.n self.now.bare.edges.now) }
     {
-        let m = self.bare.edges.len() / 2;
-        for k in 0..m {
+        for k in 0..self.bare.count() {
             let j = self.bare.jump_of(k);
             let t = self.bare.target_of(k);
             new_edges[2 * k] = self.entries[j + 1] - 1;

@@ -7,7 +7,7 @@ mod entries;
 mod given;
 mod sets;
 
-ghost use Rattle.std.specs.Prelude.{◌≡◌, ◌≤◌, length, Ok};
+ghost use Rattle.std.specs.Prelude.{◌≡◌, Ok};
 ghost use Rattle.isa.specs.declared.Technique.{Technique};
 ghost use Rattle.guards.specs.Patterns.{jump_words};
 ghost use Rattle.checker.specs.Verdicts.{first_broken};
@@ -25,9 +25,11 @@ pub struct Rewritten {
     pub edges: usize,
 }
 
+// The three places stay apart, here and below: C lends them apart, and a struct of three `&mut` would be taken apart again to lend them.
+
 // Puts the guarded code of the n words at the front of memory into `code`, its edges into `new_edges`, and for each of the n addresses
 // where its block begins into `map`; or gives the number and the place of the first fault.
-#[tactic(auto, using(crate::proofs::Verdicts::bare_of, crate::proofs::Verdicts::words_kept, crate::proofs::Verdicts::words_broken, crate::proofs::Verdicts::refused_put, crate::proofs::Verdicts::put_as))]
+#[tactic(auto, using(crate::proofs::Verdicts::bare_of, crate::proofs::Verdicts::words_kept, crate::proofs::Verdicts::words_broken))]
 pub fn rewrite(
     memory: &[u64],
     n: usize,
@@ -42,9 +44,8 @@ pub fn rewrite(
     rewrite_bare(&BareCode { memory, n, edges }, code, new_edges, map)
 }
 
-// The three places stay apart: a struct of three `&mut` would be taken apart again to lend them.
 // Number 22, and 5 after it.
-#[tactic(auto, using(checker::proofs::Rules::no_rule, checker::proofs::Rules::broken_once, checker::proofs::Rules::kept_once, crate::proofs::Verdicts::refused_put, crate::proofs::Verdicts::put_as))]
+#[tactic(auto, using(checker::proofs::Rules::no_rule, checker::proofs::Rules::broken_once, checker::proofs::Rules::kept_once))]
 #[inline(never)]
 fn rewrite_bare(
     bare: &BareCode,
@@ -79,7 +80,8 @@ fn rewrite_bare(
 }
 
 // What is to be written of bare code: the length of the new code, where each block begins, the ID of each jump's set and of the set that
-// each destination is in, and the words of a jmp's guard.
+// each destination is in, and the words of a jmp's guard. Three arrays and no array of structs: each is filled by a pass of its own, whose
+// contract would have to keep the other two numbers of every address.
 #[derive(Clone, Copy)]
 struct Layout<'a> {
     bare: BareCode<'a>,
@@ -94,7 +96,7 @@ struct Layout<'a> {
 
 impl Layout<'_> {
     // The code, the edges and the map, where each has its place.
-    #[tactic(auto, using(crate::proofs::Verdicts::short_put, crate::proofs::Verdicts::places_long))]
+    #[tactic(auto, using(crate::proofs::Verdicts::short_put))]
     fn put(
         &self,
         code: &mut [u64],

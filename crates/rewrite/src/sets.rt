@@ -1,4 +1,5 @@
-// Target sets of the claim: the ID of each jump's set, and of the set that each destination is in.
+// Target sets of the claim: the ID of each jump's set, and of the set that each destination is in. IDs stay numbers of 16 bits, n for
+// none, since an Option would take twice the stack (fixed memory).
 ghost use Rattle.lists.specs.Tables.{Table};
 ghost use Rattle.graph.specs.Claim.{id_of};
 ghost use Rattle.graph.specs.Passes.{Owned};
@@ -7,13 +8,12 @@ use crate::given::BareCode;
 
 impl BareCode<'_> {
     // The lowest target of each jump, or n where it has none.
-    #[tactic(auto, using(lists::proofs::Tables::table_as, crate::proofs::TargetSets::id_none, crate::proofs::TargetSets::id_step, crate::proofs::TargetSets::id_all))]
+    #[tactic(auto, using(crate::proofs::TargetSets::id_none, crate::proofs::TargetSets::id_all))]
     pub(crate) fn lowest_targets(&self, ids: &mut [u16; 2048])
         requires { Table ids.old self.now.n (λ _. self.now.n) }
         ensures { Table ids.new self.now.n (id_of self.now.edges.now self.now.n) }
     {
-        let m = self.edges.len() / 2;
-        for k in 0..m {
+        for k in 0..self.count() {
             let j = self.jump_of(k);
             let t = self.target_of(k);
             ids[j] = ids[j].min(t as u16);
@@ -21,13 +21,11 @@ impl BareCode<'_> {
     }
 
     // For each destination the ID of its set, and for every other address n.
-    #[tactic(auto, using(crate::proofs::TargetSets::owning_none))]
     pub(crate) fn put_owners(&self, ids: &[u16; 2048], own: &mut [u16; 2048])
         requires { Table ids.now self.now.n (id_of self.now.edges.now self.now.n) × Table own.old self.now.n (λ _. self.now.n) }
         ensures { Owned self.now.edges.now self.now.n own.new }
     {
-        let m = self.edges.len() / 2;
-        for k in 0..m {
+        for k in 0..self.count() {
             let j = self.jump_of(k);
             let t = self.target_of(k);
             own[t] = ids[j];

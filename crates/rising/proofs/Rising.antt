@@ -2,27 +2,18 @@
 use Prim.Native.Nat.{ℕ, zero, suc, ◌+◌, ◌*◌, ◌-◌, ◌≤◌, ◌<◌}
 use mathlib.Core.Path.{◌≡◌, refl, sym, ap, subst, ◌∙◌}
 use mathlib.Core.Logic.{inl, inr, ⊎_elim}
-use mathlib.Core.Bool.{Bool, true, false, not, ◌||◌, or-true}
+use mathlib.Core.Bool.{true, false, not, or-true}
 use mathlib.Core.List.{List}
-use Rattle.std.specs.Prelude.{Some, None}
-use Rattle.lists.specs.Search.{any, first}
 use native.Mathlib.Omega.{arith}
-use native.Mathlib.Numerals.{add-one}
 use native.Mathlib.Decide.{dec_lt}
 use native.Mathlib.Nat.{eq-or-lt_of_le, le_of_suc-le-suc, not-suc-le-zero, suc-mul, mul-le-mul_right}
 use lib.Dec.{ltb, eqb}
 use borrow.Author.Tests.{ltb-true, lt-ltb, eqb-true, eq-eqb, not-true, not-false}
 use Rattle.lists.proofs.Bools.{and_left, and_right, and_rest, either, true_false, refuted}
-use Rattle.lists.proofs.First.{first_at, first_none}
-use Rattle.lists.proofs.Search.{Clean, lowest_is, lowest_none, clean_none, clean_more, clean_of}
+use Rattle.lists.proofs.Search.{Clean, lowest_is, lowest_none, clean_of}
 use Rattle.graph.specs.Claim.{edge_count, jump_of, target_of}
 use Rattle.rising.specs.Inside.{rank_of, IsRank}
 use Rattle.rising.specs.Rising.{is_above, not_rising, first_not_rising, Above, Rising, FirstNotRising}
-
--- one place more
-pub any_more : (f : ℕ → Bool) (k : ℕ) {here found : Bool} → here ≡ f k → found ≡ any f k → (here || found) ≡ any f (k + 1)
-unfolding any
-any_more f k p q = rw (p, q, add-one)
 
 product_up : (b : ℕ) {i k : ℕ} → i < k → i * b + b ≤ k * b
 product_up b {i} {k} l = let s : i * b + b ≡ suc i * b = sym (suc-mul i b) in omega (arith, mul-le-mul_right b l)
@@ -122,33 +113,3 @@ module _ (edges : List ℕ) where
 
   pub rising_none : Rising edges → edge_count edges ≡ first_not_rising edges
   rising_none r = lowest_none (not_rising edges) (edge_count edges) (edge_count edges) refl (rising_clean r)
-
--- ---- the loops that look for it: every edge before k rises, and the last of them has this rank
-
-pub record Passed (b : ℕ) (edges : List ℕ) (before k : ℕ) : Type 0 where
-  pub some : 1 ≤ k
-  pub within : k ≤ edge_count edges
-  pub clean : Clean (not_rising edges) k
-  pub last : IsRank b before edges (k - 1)
-
-pub passed_one : {b before : ℕ} {edges : List ℕ} → 0 < edge_count edges → IsRank b before edges 0 → Passed b edges before 1
-passed_one {edges = edges} l r = record { some = omega arith; within = l; clean = clean_more (not_rising edges) 0 (clean_none (not_rising edges)) refl; last = r }
-
-module _ {b : ℕ} {edges : List ℕ} {before k : ℕ} (p : Passed b edges before k) where
-  pub passed_all : edge_count edges ≤ k → None ≡ first (not_rising edges) (edge_count edges)
-  passed_all l = first_none (not_rising edges) (edge_count edges) (λ i q. p.clean i (omega arith))
-
-  module _ {here : ℕ} (l : k < edge_count edges) (r : IsRank b here edges k) where
-    pub passed_falls : ltb before here ≡ false → Some k ≡ first (not_rising edges) (edge_count edges)
-    passed_falls h =
-        first_at (not_rising edges) (edge_count edges) k l p.clean (sym (rank_falls edges k r p.last p.some) ∙ ap not h)
-
-    pub passed_more : ltb before here ≡ true → Passed b edges here (k + 1)
-    passed_more h =
-        let same : k ≡ k + 1 - 1 = omega arith in
-        record {
-          some = omega arith;
-          within = omega arith;
-          clean = clean_more (not_rising edges) k p.clean (sym (rank_falls edges k r p.last p.some) ∙ ap not h);
-          last = subst (λ (x : ℕ). IsRank b here edges x) same r;
-        }

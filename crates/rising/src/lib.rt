@@ -2,15 +2,17 @@
 // numbers of 16 bits and, in the second parcel edition (K6), of 32.
 #![tactic(auto)]
 
-ghost use Rattle.std.specs.Prelude.{◌≡◌, ◌+◌, ◌*◌, ◌<◌, ◌^◌, ℕ, List, map, ltb, refl};
+ghost use Rattle.std.specs.Prelude.{◌≡◌, ◌+◌, ◌*◌, ◌<◌, ◌^◌, ◌||◌, ℕ, false, List, map, fold, ltb, refl};
 ghost use Rattle.std.proofs.Common.{sym};
 ghost use Rattle.std.proofs.lemmas.List.{map-id};
-ghost use Rattle.lists.specs.Search.{any, first};
+ghost use Rattle.std.specs.List.{range_with_len};
+ghost use Rattle.lists.specs.Search.{first};
 ghost use Rattle.graph.specs.Claim.{edge_count};
 ghost use Rattle.rising.specs.Rising.{not_rising};
 ghost use Rattle.rising.specs.Inside.{IsRank};
 
-// An unsigned number, and in clauses what it and a list of such numbers stand for.
+// An unsigned number of 16, 32 or 64 bits. Clauses speak of it as a plain number (`number`), and of a slice of such numbers as a list of
+// plain numbers (`numbers`).
 pub trait Number: Copy {
     ghost number: { Self → ℕ };
 
@@ -43,7 +45,8 @@ impl Number for u64 {
     ghost each = { λ xs. sym (map-id xs) };
 }
 
-// An edge number: the jump's address and the target are one number, which is higher for a higher jump, and of one jump for a higher target.
+// A number in an edge, which is a jump's address or a target: of 16 bits in the first edition, of 32 in the second. The two numbers of an
+// edge together are its rank (the jump counts first), so that an edge is above another where its rank is higher.
 pub trait EdgeNumber: Number {
     type Rank: Copy;
 
@@ -92,6 +95,7 @@ impl EdgeNumber for u32 {
 }
 
 // Number 18: the first edge that is not above the one before it.
+#[tactic(auto, using(lists::proofs::First::folded_none))]
 pub fn first_not_rising<E: EdgeNumber>(edges: &[E]) -> Option<usize>
     ensures { result ≡ first (not_rising (E.numbers edges.now)) (edge_count (E.numbers edges.now)) }
 {
@@ -101,42 +105,35 @@ pub fn first_not_rising<E: EdgeNumber>(edges: &[E]) -> Option<usize>
     None
 }
 
-// Whether there is one. No edge ends the loop before the last, so that the compiler can take several edges at a time.
-#[tactic(auto, using(crate::proofs::Numbers::numbers_length), unfolding(lists::specs::Search::any))]
+// Whether there is one. No edge ends the fold before the last, so that the compiler can take several edges at a time.
 fn some_not_rising<E: EdgeNumber>(edges: &[E]) -> bool
-    ensures { result ≡ any (not_rising (E.numbers edges.now)) (edge_count (E.numbers edges.now)) }
+    ensures { result ≡ fold (λ found k. not_rising (E.numbers edges.now) k || found) false (range_with_len 0 (edge_count (E.numbers edges.now))) }
 {
-    let m = edges.len() / 2;
-    if m == 0 {
-        return false;
-    }
-    let mut found = false;
-    let mut before = rank_at(edges, 0);
-    for k in 1..m {
-        let here = rank_at(edges, k);
-        found = !E::rises(before, here) | found;
-        before = here;
-    }
-    found
+    (0..count(edges)).fold(false, |found, k| falls_at(edges, k) | found)
 }
 
-#[tactic(auto, using(crate::proofs::Rising::passed_one, crate::proofs::Numbers::numbers_length))]
+// Which one, where there is one: only then, so that two reads of an edge cost nothing.
+#[tactic(auto, unfolding(lists::specs::Search::first))]
 fn find_not_rising<E: EdgeNumber>(edges: &[E]) -> Option<usize>
     ensures { result ≡ first (not_rising (E.numbers edges.now)) (edge_count (E.numbers edges.now)) }
 {
-    let m = edges.len() / 2;
-    if m == 0 {
-        return None;
-    }
-    let mut before = rank_at(edges, 0);
-    for k in 1..m {
-        let here = rank_at(edges, k);
-        if !E::rises(before, here) {
-            return Some(k);
-        }
-        before = here;
-    }
-    None
+    (0..count(edges)).find(|k| falls_at(edges, *k))
+}
+
+// Whether edge k is not above the one before it.
+#[tactic(auto, using(crate::proofs::Rising::rank_falls))]
+fn falls_at<E: EdgeNumber>(edges: &[E], k: usize) -> bool
+    requires { k < edge_count (E.numbers edges.now) }
+    ensures { result ≡ not_rising (E.numbers edges.now) k }
+{
+    0 < k && !E::rises(rank_at(edges, k - 1), rank_at(edges, k))
+}
+
+// How many edges there are.
+fn count<E: EdgeNumber>(edges: &[E]) -> usize
+    ensures { result ≡ edge_count (E.numbers edges.now) }
+{
+    edges.len() / 2
 }
 
 // The rank of an edge.

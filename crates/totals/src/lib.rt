@@ -91,6 +91,7 @@ impl Totals {
     }
 
     // That there is room for one parcel more is asked of these three: a type for it would be made and taken apart at once.
+
     // One parcel more, and nothing else.
     fn passed_over(self) -> Self
         requires { self.parcels < 65535 }

@@ -4,8 +4,7 @@ use mathlib.Core.Path.{◌≡◌}
 use mathlib.Core.List.{List}
 use Rattle.parcel.specs.Parcel.{Read, Written, read_of, memory_in, edges_in, after_read, after_write}
 use Rattle.std.specs.Prelude.{Ok, Err}
-use Rattle.capi.specs.Parcels.{read_number, read_call, counts_after, written_parcel_number, count_after}
-use Rattle.wide.specs.Calls.{put_short}
+use Rattle.capi.specs.Parcels.{read_number, read_call, counts_after, written_parcel_number, count_after, put_short}
 use Rattle.wide.specs.Theorems.{RefusedWideCallsChangeNothing}
 
 not_put : (a : Written) (bytes parcel count : List ℕ) {r : ℕ} {parcel' count' : List ℕ} → r ≡ written_parcel_number a → parcel' ≡ after_write a bytes parcel

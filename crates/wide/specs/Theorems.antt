@@ -2,8 +2,7 @@
 -- itself. `proofs/Unchanged.antt` has the proofs.
 use Rattle.std.specs.Prelude.{ℕ, ◌≡◌, Bool, List}
 use Rattle.parcel.specs.Parcel.{Written}
-use Rattle.capi.specs.Parcels.{ReadCall}
-use Rattle.wide.specs.Calls.{PutCall}
+use Rattle.capi.specs.Parcels.{ReadCall, PutCall}
 
 pub record RefusedWideCallsChangeNothing : Type 0 where
   -- the writer, and the converters

@@ -1,12 +1,11 @@
 // The calls for C and Rust on the second parcel edition (document 02, K6): reader, writer, check and the converters.
-// `include/post_guard.h` declares them.
+// `include/post_guard.h` declares them. C needs a name for each, however alike two of them are, and lends each place by itself.
 #![tactic(auto)]
 
 ghost use Rattle.parcel.specs.Parcel.{read_of};
 ghost use Rattle.editions.specs.Converters.{bytes_for, widened_of, narrowed_of};
 ghost use Rattle.capi.specs.Checks.{CheckCall};
-ghost use Rattle.capi.specs.Parcels.{ReadCall, bytes_in, write_call};
-ghost use Rattle.wide.specs.Calls.{PutCall};
+ghost use Rattle.capi.specs.Parcels.{ReadCall, PutCall, WritePlacedCall};
 
 use capi::{put_answer, put_written, room_of, technique_of, too_short};
 
@@ -47,12 +46,11 @@ pub fn pg_write_wide_parcel(
     count: &mut [u64],
     place: &mut [u64],
 ) -> u32
-    ensures { PutCall (write_call 4 memory.now n edges.now) (bytes_in 4 memory.now n edges.now) parcel.old count.old place.old result parcel.new count.new place.new }
+    ensures { WritePlacedCall 4 memory.now n edges.now parcel.old count.old place.old result parcel.new count.new place.new }
 {
     capi::write_lent(memory, n, edges, parcel, count, place)
 }
 
-#[tactic(auto, using(capi::proofs::Puts::room_fits))]
 pub fn pg_widen(parcel: &[u8], wide: &mut [u8], count: &mut [u64], place: &mut [u64]) -> u32
     ensures { PutCall (λ short. widened_of short (read_of 2 parcel.now)) (bytes_for 4 (read_of 2 parcel.now)) wide.old count.old place.old result wide.new count.new place.new }
 {
@@ -61,7 +59,6 @@ pub fn pg_widen(parcel: &[u8], wide: &mut [u8], count: &mut [u64], place: &mut [
     put_written(written, count, place)
 }
 
-#[tactic(auto, using(capi::proofs::Puts::room_fits))]
 pub fn pg_narrow(wide: &[u8], parcel: &mut [u8], count: &mut [u64], place: &mut [u64]) -> u32
     ensures { PutCall (λ short. narrowed_of short (read_of 4 wide.now)) (bytes_for 2 (read_of 4 wide.now)) parcel.old count.old place.old result parcel.new count.new place.new }
 {

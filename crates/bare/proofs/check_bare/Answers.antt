@@ -1,3 +1,4 @@
+-- `check_bare` meets its contract: a claim that the checkers keep has its n words in memory, so these can be cut off its front (`Claimed`).
 use mathlib.Core.Path.{sym, ◌∙◌}
 use Rattle.bare.proofs.Claimed.{code_within}
 use Rattle.bare.proofs.Chains.{front_length}

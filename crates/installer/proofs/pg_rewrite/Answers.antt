@@ -3,5 +3,4 @@ use Rattle.installer.proofs.Calls.{call_done}
 use Rattle.installer.proofs.pg_rewrite.Goals as goal
 
 pub returns : goal.returns
-returns c =
-    call_done _ _ _ _ _ _ _ _ _ _ _ _ _ _ c.put_rewritten.ensures c.room_of-room.ensures c.rewrite-rewritten.ensures
+returns c = call_done c.put_rewritten.ensures c.room_of-room.ensures c.rewrite-rewritten.ensures

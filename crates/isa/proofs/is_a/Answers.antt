@@ -1,3 +1,4 @@
+-- `is_a` meets its contract where the opcode is another: a word's kind is that of its highest byte.
 use Rattle.std.proofs.Common.{rules, ◌≡◌, ◌∙◌, false, ◌/◌, ◌^◌}
 use Rattle.std.specs.Prelude.{eqb}
 use borrow.Author.Tests.{ne_eqb}

@@ -25,7 +25,7 @@ invariant_of-layout c =
         bare = c.args.bare.now.passed;
         total_is = filled.total_is;
         short = c.if-total-gt2048.false;
-        entries_are = table_grow _ _ filled.entries_are (laid_below filled c.if-total-gt2048.false) (omega (arith, filled.total_is));
+        entries_are = table_grow filled.entries_are (laid_below filled c.if-total-gt2048.false) (omega (arith, filled.total_is));
         ids_are = c.lowest_targets.ensures;
         owned = c.put_owners.ensures;
       };

@@ -1,13 +1,19 @@
-use Rattle.std.proofs.Common.{get_or, ℕ, Some}
-use mathlib.Core.Path.{sym, ap, ◌∙◌}
-use native.Mathlib.Omega.{arith}
+-- `sets::first_contested` meets its contract: the chain asks each edge.
+use Rattle.std.proofs.Common.{rules, tests, ◌≡◌, get_or, ◌+◌}
+use Rattle.std.proofs.lemmas.Iterator.{first_from_Range}
+use mathlib.Core.Logic.{◌≢◌}
 use Rattle.rising.proofs.Rising.{clean_rising}
-use Rattle.checker.proofs.TargetSets.{first_broken_lem}
+use Rattle.graph.specs.Claim.{target_of}
+use Rattle.checker.proofs.TargetSets.{contested_told}
 use Rattle.checker.proofs.sets.first_contested.Goals as goal
 
-pub returns-then-own-t : goal.returns-then-own-t
-returns-then-own-t c =
-    ap Some c.jump.ensures.is
-    ∙ first_broken_lem _ _ c.args.claim.now.claimed.within _ c.requires (clean_rising _ c.args.claim.now.claimed.rising) c.loop-k.k
-    (omega (arith, c.loop-k-test.true, c.count-k-end.ensures)) (λ i q. c.loop-k.invariant i (omega arith) q)
-    (ap (λ (t : ℕ). get_or c.args.own.now t 0) (sym c.target-t.ensures.is) ∙ c.if-own-t.true)
+pub returns : goal.returns
+returns c =
+    let claim = c.args.claim.now in
+    let n = claim.code.n in
+    contested_told claim.edges.now n claim.claimed.within c.args.own.now c.requires (clean_rising _ claim.claimed.rising) c.count.result c.count.ensures
+    c.find.result c.map.result
+    (first_from_Range _ _ _ c.find.result (λ i. get_or c.args.own.now (target_of claim.edges.now i) 0 ≡ n + 1)
+    (λ i. get_or c.args.own.now (target_of claim.edges.now i) 0 ≢ n + 1) c.find.ensures.ran
+    (λ x q k. search (rules, tests)) (λ x q k. search (rules, tests)))
+    c.map.ensures.cases (λ k j p. search rules)

@@ -1,3 +1,4 @@
+-- `sets::put_sets` meets its contract: the edges of one jump at a time, and its set put in.
 use Rattle.std.proofs.Common.{◌<◌}
 use native.Mathlib.Omega.{arith}
 use Rattle.graph.specs.Claim.{edge_count}

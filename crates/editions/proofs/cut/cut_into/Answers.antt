@@ -1,3 +1,4 @@
+-- `cut_into` meets its contract: a turn stores one number, and at the end none is left (`Outside`).
 use Rattle.editions.proofs.Outside.{cutting_goes_on, cutting_ends}
 use Rattle.editions.proofs.cut.cut_into.Goals as goal
 

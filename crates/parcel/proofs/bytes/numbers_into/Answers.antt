@@ -1,3 +1,4 @@
+-- `parcel::bytes::numbers_into` meets its contract: a turn reads one number, and at the end none is left (`Runs`).
 use Rattle.std.proofs.Common.{◌≡◌, ℕ, ◌+◌, ◌*◌, List, drop, subst, sym, arith}
 use Rattle.rising.proofs.Numbers.{numbers_length, numbers_set}
 use Rattle.parcel.specs.Bytes.{number_of}

@@ -1,3 +1,4 @@
+-- `parcel::bytes::put_numbers` meets its contract: a turn writes one number, and at the end none is left (`Runs`).
 use Rattle.std.proofs.Common.{◌≡◌, ℕ, ◌+◌, ◌*◌, ◌∙◌, get_or, ap₂, sym, arith}
 use Rattle.std.proofs.lemmas.List.Edits.{sets}
 use Rattle.rising.proofs.Numbers.{numbers_length, number_at}

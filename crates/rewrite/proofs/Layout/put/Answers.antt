@@ -5,4 +5,4 @@ use Rattle.rewrite.proofs.Layout.put.Goals as goal
 pub returns : goal.returns
 returns c =
     let r = c.args.self.now.ready in
-    all_put _ _ _ r.bare.claim _ _ _ _ r.total_is c.if-short.false c.put_code.ensures c.put_edges.ensures c.put_entries.ensures
+    all_put r.bare.claim _ _ _ r.total_is c.if-short.false c.put_code.ensures c.put_edges.ensures c.put_entries.ensures

@@ -3,4 +3,4 @@ use Rattle.rewrite.proofs.Bodies.{block_put}
 use Rattle.rewrite.proofs.Layout.put_block.Goals as goal
 
 pub returns : goal.returns
-returns c = block_put _ _ _ _ _ _ _ c.args.self.now.ready c.args.a c.requires.0 c.put_label-at.ensures c.put_body.ensures
+returns c = block_put c.args.self.now.ready c.requires.0 c.put_label-at.ensures c.put_body.ensures

@@ -1,3 +1,4 @@
+-- `sets::TargetSet::put_owner` meets its contract: one more edge of the jump, one more address with its owner.
 use native.Mathlib.Omega.{arith}
 use Rattle.checker.proofs.Runs.{owner_none, owner_more, owner_all}
 use Rattle.checker.proofs.sets.TargetSet.put_owner.Goals as goal

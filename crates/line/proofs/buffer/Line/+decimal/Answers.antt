@@ -1,3 +1,4 @@
+-- `Line::decimal` is short: the digits of a tenth of the number, and one more (`Text`).
 use Rattle.std.proofs.Common.{arith}
 use Rattle.line.proofs.Text.{decimal_short}
 use Rattle.line.proofs.buffer.Line.+decimal.Goals as goal
