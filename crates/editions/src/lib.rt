@@ -40,6 +40,7 @@ pub fn narrow(wide: &[u8], parcel: &mut [u8]) -> Result<usize, Fault>
 }
 
 // Puts a parcel that was counted, with edge numbers of W bytes, as one with V, if the place is long enough.
+// What the two widths are is asked here and below: a const parameter carries no fact.
 #[tactic(auto, using(crate::proofs::Converted::counted_long, crate::proofs::Converted::counted_twice, crate::proofs::Converted::convert_short))]
 fn convert<const W: usize, const V: usize>(
     s: &[u8],
