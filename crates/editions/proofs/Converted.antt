@@ -4,7 +4,7 @@ use mathlib.Core.Bool.{false}
 use mathlib.Core.List.{List, ◌++◌, append_assoc}
 use Prim.Native.Nat.{ℕ, ◌+◌, ◌*◌, ◌/◌, ◌≤◌, ◌<◌}
 use native.Mathlib.Omega.{arith}
-use native.Mathlib.Nat.{mul_assoc, mul_comm, mul-le-mul_left}
+use native.Mathlib.Nat.{mul_assoc}
 use lib.ListN.{length, take, drop, length-append}
 use lib.Seq.{sets, take_at, drop_at, drop-drop}
 use lib.Dec.{ltb}
@@ -28,7 +28,7 @@ use Rattle.parcel.proofs.Runs.{length_numbers, length_all_bytes}
 use Rattle.parcel.proofs.Sections.{length_section}
 use Rattle.parcel.proofs.ReaderAnswers.{Whole, whole}
 use Rattle.parcel.proofs.RoundTrips.{parcel_written}
-use Rattle.editions.specs.Converters.{bytes_for, is_wide, first_wide, WidenedSo, NarrowedSo}
+use Rattle.editions.specs.Converters.{bytes_for, is_wide, first_wide, NarrowedSo}
 use Rattle.editions.specs.Inside.{ConvertedSo}
 use Rattle.editions.proofs.Converting.{part_from}
 
@@ -111,13 +111,6 @@ module _ (w v : ℕ) (s p : List ℕ) {n e d : ℕ} (below : AllBelow 256 s) (t 
 pub counted_long : (w : ℕ) (s : List ℕ) {n e d : ℕ} → Ok (counts n e d) ≡ counts_of (read_of w s) → length s ≡ 12 + n * 8 + e * (2 * w) + d * 8
 counted_long w s h = (whole w s (sym h)).long
 
--- other edge numbers take at most twice the room
-pub counted_twice : (w v e : ℕ) → 2 ≤ w → v ≤ 4 → e * (2 * v) ≤ 2 * (e * (2 * w))
-counted_twice w v e l h =
-    let a : e * (2 * v) ≤ e * (2 * (2 * w)) = mul-le-mul_left e (omega arith) in
-    let b : e * (2 * (2 * w)) ≡ 2 * (e * (2 * w)) = sym (mul_assoc e 2 (2 * w)) ∙ ap (λ (k : ℕ). k * (2 * w)) (mul_comm e 2) ∙ mul_assoc 2 e (2 * w) in
-    omega (arith, a, b)
-
 -- ---- the answers
 
 module _ (w v : ℕ) (s p : List ℕ) {n e d : ℕ} (h : Ok (counts n e d) ≡ counts_of (read_of w s)) (below : AllBelow 256 s) where
@@ -139,10 +132,6 @@ module _ (w v : ℕ) (s p : List ℕ) {n e d : ℕ} (h : Ok (counts n e d) ≡ c
       let b' = b ∙ ap (λ (x : List ℕ). sets p₁ (8 + n * 8) (all_bytes_of v (numbers_of w (e * 2) x))) (take_rest s (8 + n * 8)) in
       let c' = c ∙ ap (sets p₂ (8 + n * 8 + e * (2 * v))) (take_rest s (8 + n * 8 + e * (2 * w))) in
       record { answers = rw (size_is w v s p below t) (rw (le-ltb (length p) size l)); bytes = pieces_put w v s p below t l a b' c' }
-
-pub widened : (s p : List ℕ) {n e d : ℕ} {answer : Written} {p' : List ℕ} → Ok (counts n e d) ≡ counts_of (read_of 2 s)
-    → ConvertedSo 2 4 s p answer p' → WidenedSo s p answer p'
-widened s p h so = let t = whole 2 s (sym h) in record { answers = so.answers ∙ rw t.is; bytes = so.bytes }
 
 module _ (s p : List ℕ) {n e d : ℕ} (h : Ok (counts n e d) ≡ counts_of (read_of 4 s)) where
   -- the first edge with an address above 65,535, as the code finds it

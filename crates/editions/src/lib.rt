@@ -15,7 +15,6 @@ use isa::Technique;
 use parcel::{Counts, Edition};
 
 // Puts a parcel of the first edition as one of the second.
-#[tactic(auto, using(crate::proofs::Converted::widened))]
 pub fn widen(parcel: &[u8], wide: &mut [u8]) -> Result<usize, Fault>
     ensures { WidenedSo parcel.now wide.old result wide.new }
 {
@@ -41,7 +40,7 @@ pub fn narrow(wide: &[u8], parcel: &mut [u8]) -> Result<usize, Fault>
 
 // Puts a parcel that was counted, with edge numbers of W bytes, as one with V, if the place is long enough.
 // What the two widths are is asked here and below: a const parameter carries no fact.
-#[tactic(auto, using(crate::proofs::Converted::counted_long, crate::proofs::Converted::counted_twice, crate::proofs::Converted::convert_short))]
+#[tactic(auto, using(crate::proofs::Converted::counted_long, crate::proofs::Converted::convert_short))]
 fn convert<const W: usize, const V: usize>(
     s: &[u8],
     found: Counts,
