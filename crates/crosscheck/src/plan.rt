@@ -90,7 +90,7 @@ impl Plan {
             .unwrap_or(0)
     }
 
-    // A label of the set, found by chance, or else the lowest.
+    // A label of the set, found by chance, or else the lowest. A `for`: the closure of a chain would have to draw on the side.
     pub(crate) fn some_label(&self, set: usize, random: &mut Random) -> usize {
         for _ in 0..40 {
             let at = random.below(self.n);

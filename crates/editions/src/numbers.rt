@@ -1,6 +1,6 @@
 // Numbers in bytes, low byte first, put as numbers of another width.
-// `to` and `start` go together: a part of a `&mut` slice that is lent on would make a contract speak of two places, and as parameters
-// each clause speaks of the whole.
+// `to` and `start`, and `s` and `at` of `put_half`, stay apart: a part of a `&mut` slice that is lent on would make a contract speak of
+// two places, and as parameters each clause speaks of the whole.
 ghost use Rattle.std.specs.Prelude.{◌≡◌, ◌⊎◌, ◌||◌, ◌+◌, ◌*◌, ◌≤◌, ◌<◌, leb, length, drop};
 ghost use Rattle.std.proofs.lemmas.List.Edits.{sets};
 ghost use Rattle.lists.specs.Search.{first};

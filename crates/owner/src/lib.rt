@@ -114,9 +114,8 @@ fn add_in(report: Result<Figures, Fault>, sums: &mut [u64; 6]) -> Added
         return Added::Unchanged;
     };
     let made = totals::add_report(before, report);
-    match made.answer {
-        Added::Unchanged => {}
-        _ => *sums = total_numbers(made.totals),
+    if made.answer != Added::Unchanged {
+        *sums = total_numbers(made.totals);
     }
     made.answer
 }

@@ -88,8 +88,8 @@ fn room_for<E: InBytes>(parcel: &[u8], words: usize, numbers: usize) -> Result<C
     Ok(found)
 }
 
-// The code words from 4 on, and directly after them the data words from at on, into the front of the memory. `at` is a
-// parameter, since where data begins depends on the width of edge numbers.
+// The code words from 4 on, and directly after them the data words from at on, into the front of the memory. No plainer
+// by the three counts and the width: this is one body for both editions, and its contract speaks of no edge.
 #[tactic(auto, using(crate::proofs::ReaderAnswers::put_after, crate::proofs::Runs::length_numbers))]
 fn memory_into(parcel: &[u8], code: usize, at: usize, words: usize, memory: &mut [u64])
     requires { (4 + code * 8 ≤ length parcel.now) × (at + words * 8 ≤ length parcel.now) × (code + words ≤ length memory.old) }
@@ -124,7 +124,7 @@ fn planned<E: InBytes>(
     Ok(size)
 }
 
-// A section from at on: the count of its items, which are so many numbers each, then the numbers.
+// A section from at on: the count of its items, which are so many numbers each, then the numbers. `s` and `at` stay apart, as in bytes.rt.
 fn put_section<N: InBytes>(s: &mut [u8], at: usize, each: usize, xs: &[N])
     requires { (at + (4 + length xs.now * N.WIDTH) ≤ length s.old) × (length xs.now ≤ 4096) × (1 ≤ each) }
     ensures { s.new ≡ sets s.old at (section_of N.WIDTH each (N.numbers xs.now)) }
