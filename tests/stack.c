@@ -76,7 +76,7 @@ static const struct {
 } calls[] = {
     {"pg_check", check, 9 * 1024},
     {"pg_check_wide", check_wide, 18 * 1024},
-    {"pg_rewrite", rewrite, 13 * 1024},
+    {"pg_rewrite", rewrite, 9 * 1024},
     {"pg_report", report, 9 * 1024},
     {"pg_add_report", add_report, 9 * 1024},
     {"pg_report_parcel", report_parcel, 50 * 1024},

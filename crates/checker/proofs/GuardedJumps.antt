@@ -2,13 +2,12 @@
 -- sequence starts at the lowest such jmp.
 use Prim.Native.Nat.{ℕ, zero, suc, ◌-◌, ◌<◌, ◌≤◌}
 use mathlib.Core.Path.{◌≡◌, refl, sym, ap, ◌∙◌}
-use mathlib.Core.Logic.{◌≢◌}
 use mathlib.Core.Bool.{true, false, not}
 use mathlib.Core.List.{List}
 use native.Mathlib.Omega.{arith}
 use native.Mathlib.Decide.{ℕ_discrete}
 use lib.Dec.{leb}
-use borrow.Author.Tests.{not-false, eq-eqb, ne_eqb}
+use borrow.Author.Tests.{not-false, ne_eqb}
 use Rattle.std.specs.Prelude.{Option, None, Some, option_map}
 use Rattle.lists.proofs.Bools.{and_left, and_right, and_rest, or_right, true_false, refuted}
 use Rattle.lists.specs.Search.{first}
@@ -24,7 +23,7 @@ use Rattle.guards.specs.Rules.{jump_unguarded}
 use Rattle.checker.specs.Passes.{Claimed, Leaving, is_first, starts_bare}
 use Rattle.checker.specs.Conditions.{Listed}
 use Rattle.checker.proofs.Listed.{has_listed}
-use Rattle.checker.proofs.Runs.{Cut, jumps_rise, lower_before, first_target}
+use Rattle.checker.proofs.Runs.{Cut, first_cut, lower_before, first_target}
 
 module _ (t : Technique) (memory : List ℕ) (n : ℕ) (edges : List ℕ) (claim : Claimed memory n edges) where
   rises : Rising edges
@@ -36,21 +35,6 @@ module _ (t : Technique) (memory : List ℕ) (n : ℕ) (edges : List ℕ) (claim
       let jump : is_jump (instr_at memory (jump_of edges k)) ≡ true =
       not-false _ (or_right (leb n (jump_of edges k)) _ (claim.from_jumps k l)) in
       rw (jump, ← first_target edges rises n claim.within k c l)
-
-  -- the edges before the first one of a jump
-  first_cut : (k : ℕ) → k < edge_count edges → is_first edges k ≡ true → Cut edges (jump_of edges k) k
-  first_cut k l e =
-      record {
-        place = omega arith;
-        below = λ i q.
-            let to = jumps_rise edges rises i (k - 1) (omega arith) (omega arith) in
-            let on = jumps_rise edges rises (k - 1) k (omega arith) l in
-            omega (arith, to, on, other i q);
-        above = λ i q h. jumps_rise edges rises k i q h;
-      }
-    where
-      other : (i : ℕ) → i < k → jump_of edges (k - 1) ≢ jump_of edges k
-      other i q z = true_false e (rw (ne_eqb k 0 (λ x. omega (arith, x)), eq-eqb (jump_of edges (k - 1)) (jump_of edges k) z))
 
   -- each edge has the first one of its jump before it, or is it
   first_of : (i : ℕ) → (k : ℕ) × (k ≤ i) × (jump_of edges k ≡ jump_of edges i) × (is_first edges k ≡ true)
@@ -85,7 +69,7 @@ module _ (t : Technique) (memory : List ℕ) (n : ℕ) (edges : List ℕ) (claim
         let v = first_of i in
         let k : v.0 < edge_count edges = omega (arith, v.1) in
         ap (jump_unguarded t memory n edges) (sym v.2)
-        ∙ bare_is v.0 (first_cut v.0 k v.3) k
+        ∙ bare_is v.0 (first_cut edges rises v.0 k v.3) k
         ∙ and_rest (is_first edges v.0) _ v.3 (c v.0 (omega (arith, v.1)))
 
     pub bare_found : first (jump_unguarded t memory n edges) n ≡ option_map (jump_of edges) (first (starts_bare t memory n edges) (edge_count edges))
@@ -103,4 +87,4 @@ module _ (t : Technique) (memory : List ℕ) (n : ℕ) (edges : List ℕ) (claim
             sym (first_at (jump_unguarded t memory n edges) n (jump_of edges k) (claim.within.jumps k f.0)
             (λ a q. none_among a (omega (arith, q, claim.within.jumps k f.0))
             (λ i h z. fine k clean i (lower_before edges rises i k h (omega (arith, z, q))) h))
-            (bare_is k (first_cut k f.0 is) f.0 ∙ and_right (is_first edges k) _ f.2))
+            (bare_is k (first_cut edges rises k f.0 is) f.0 ∙ and_right (is_first edges k) _ f.2))

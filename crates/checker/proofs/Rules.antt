@@ -7,12 +7,12 @@ use native.Mathlib.Omega.{arith}
 use borrow.Author.Tests.{lt-ltb, le-ltb, leb-true}
 use lib.Dec.{leb, ltb, eqb}
 use lib.ListN.{length}
-use Rattle.lists.proofs.Bools.{and_left, and_right}
+use Rattle.lists.proofs.Bools.{and_left, and_right, clash}
 use Rattle.lists.specs.Search.{lowest, first}
 use Rattle.lists.proofs.First.{first_lowest, first_clean}
 use Rattle.lists.proofs.Search.{lowest_at, lowest_none, clean_none}
-use Rattle.checker.specs.Passes.{Claimed}
-use Rattle.std.specs.Prelude.{None, Some, Ok, Err, option_map}
+use Rattle.checker.specs.Passes.{Claimed, unless_some}
+use Rattle.std.specs.Prelude.{Option, None, Some, Ok, Err, option_map}
 use Rattle.std.specs.Result.{result_and}
 use Rattle.answers.specs.Faults.{fault, Verdict, refusal_at}
 use Rattle.answers.specs.declared.Refusal.{Refusal}
@@ -98,6 +98,11 @@ pub claim_verdict_by : (memory : List ℕ) (n : ℕ) (edges : List ℕ)
     → claim_verdict_of memory n edges ≡ result_and (first_broken (to_claim memory n edges)) (first_broken (to_graph memory n edges))
 unfolding claim_verdict_of
 claim_verdict_by memory n edges = broken_append (to_claim memory n edges) (to_graph memory n edges)
+
+-- a count that was told, and no place
+pub unless_ok : {many j : ℕ} {o : Option ℕ} → unless_some many o ≡ Ok j → (None ≡ o) × (j ≡ many)
+unless_ok {o = None} e = (refl, cc)
+unless_ok {o = Some a} e = clash (cc)
 
 -- what number 6 leaves
 pub sized : (memory : List ℕ) (n : ℕ) → memory_shaped (length memory) n ≡ true → Sized memory n

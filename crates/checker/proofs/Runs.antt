@@ -23,7 +23,7 @@ use Rattle.graph.specs.Passes.{Within, edge_in}
 use Rattle.graph.proofs.Edges.{edge_more, edge_at, edge_of}
 use Rattle.rising.specs.Rising.{Above, Rising}
 use Rattle.rising.proofs.Sizes.{size_in, size_more}
-use Rattle.checker.specs.Passes.{Run, EdgesOf, OwnedBy}
+use Rattle.checker.specs.Passes.{Run, EdgesOf, OwnedBy, is_first}
 use Rattle.std.specs.Prelude.{Option, Some, None}
 use Rattle.std.specs.Bool.{MatchBool}
 use Rattle.std.specs.List.{range_with_len, AllWithin, HoldsAt}
@@ -164,6 +164,21 @@ module _ (edges : List ℕ) (r : Rising edges) where
         below = λ i l. omega (arith, c.below i l, c.above k (omega arith) h);
         above = λ i l q. jumps_rise k i l q;
       }
+
+  -- the edges before the first one of a jump
+  pub first_cut : (k : ℕ) → k < edge_count edges → is_first edges k ≡ true → Cut edges (jump_of edges k) k
+  first_cut k l e =
+      record {
+        place = omega arith;
+        below = λ i q.
+            let to = jumps_rise i (k - 1) (omega arith) (omega arith) in
+            let on = jumps_rise (k - 1) k (omega arith) l in
+            omega (arith, to, on, other i q);
+        above = λ i q h. jumps_rise k i q h;
+      }
+    where
+      other : (i : ℕ) → i < k → jump_of edges (k - 1) ≢ jump_of edges k
+      other i q z = true_false e (rw (ne_eqb k 0 (λ x. omega (arith, x)), eq-eqb (jump_of edges (k - 1)) (jump_of edges k) z))
 
   -- past the edges of a
   pub cut_run : (a k end : ℕ) → Cut edges a k → Run edges a k end → Cut edges (a + 1) end

@@ -1,4 +1,5 @@
 pub mod Verdicts
+pub mod Ends
 pub mod Conditions
 pub mod Theorems
 pub mod Steps

@@ -1,6 +1,6 @@
 -- What the checker's passes over rising edges know, and leave in their arrays. Contracts of private functions cite these; nothing that
 -- is promised outside does.
-use Rattle.std.specs.Prelude.{ℕ, ◌+◌, ◌-◌, ◌<◌, ◌≤◌, ◌≡◌, ◌⊎◌, ◌≢◌, Bool, true, false, not, ◌&&◌, ◌||◌, eqb, List, length, get_or, Option, None}
+use Rattle.std.specs.Prelude.{ℕ, ◌+◌, ◌-◌, ◌<◌, ◌≤◌, ◌≡◌, ◌⊎◌, ◌≢◌, Bool, true, false, not, ◌&&◌, ◌||◌, eqb, List, length, get_or, Option, None, Some, Result, Ok, Err}
 use Rattle.lists.specs.Search.{count, first}
 use Rattle.graph.specs.Claim.{edge_count, jump_of, target_of, is_edge, id_of}
 use Rattle.graph.specs.Rules.{starts_at_no_jump, lacks_edge, overlaps}
@@ -19,6 +19,11 @@ pub record Claimed (memory : List ℕ) (n : ℕ) (edges : List ℕ) : Type 0 whe
 -- rule 9 passed
 abbrev pub Leaving : List ℕ → ℕ → List ℕ → Type 0
 Leaving memory n edges = (a : ℕ) → a < n → lacks_edge memory edges a ≡ false
+
+-- so many, unless a place was found
+abbrev pub unless_some : ℕ → Option ℕ → Result ℕ ℕ
+unless_some many None = Ok many
+unless_some many (Some a) = Err a
 
 -- edge k is the first of its jump
 abbrev pub is_first : List ℕ → ℕ → Bool

@@ -2,8 +2,10 @@
 ghost use Rattle.std.specs.Prelude.{◌≡◌, ◌<◌, ◌≤◌, ◌&&◌};
 ghost use Rattle.isa.specs.Words.{known};
 ghost use Rattle.isa.specs.Instructions.{instr_at, is_kind};
-ghost use Rattle.graph.specs.Claim.{edge_count, jump_of, target_of};
+ghost use Rattle.lists.specs.Search.{count};
+ghost use Rattle.graph.specs.Claim.{edge_count, jump_of, target_of, is_destination};
 ghost use Rattle.graph.specs.Passes.{Sized, Is, Owned, owner_of};
+ghost use Rattle.checker.specs.Ends.{is_jump_at};
 ghost use Rattle.checker.specs.Passes.{Claimed, Leaving, Run, is_first};
 
 use crate::edges::{jump_number, target_number};
@@ -81,12 +83,14 @@ impl Claim<'_> {
     }
 }
 
-// The same with the owner of each address: 9 and 10 have passed.
+// The same with the owner of each address, and with how many jmps there are: 9 and 10 have passed.
 #[derive(Clone, Copy)]
 pub(crate) struct Graph<'a> {
     pub(crate) claim: Claim<'a>,
     pub(crate) own: &'a [u16; 2048],
+    pub(crate) jumps: usize,
     pub(crate) ghost leaving: { Leaving claim.code.memory.now claim.code.n claim.edges.now },
+    pub(crate) ghost counted: { jumps ≡ count (is_jump_at claim.code.memory.now) claim.code.n },
     pub(crate) ghost owned: { Owned claim.edges.now claim.code.n own.now },
 }
 
@@ -102,5 +106,20 @@ impl Graph<'_> {
         } else {
             None
         }
+    }
+
+    // How many addresses are destinations: those that an ID owns. A `for`, which the compiler does several at a time; `filter` and `count`
+    // stay one by one.
+    #[tactic(auto, using(lists::proofs::Counts::count_none, lists::proofs::Counts::count_more, graph::proofs::Owners::destined))]
+    pub(crate) fn destinations(&self) -> usize
+        ensures { result ≡ count (is_destination self.now.claim.edges.now) self.now.claim.code.n }
+    {
+        let mut count = 0;
+        for a in 0..self.claim.code.n {
+            if self.owner_of(a).is_some() {
+                count += 1;
+            }
+        }
+        count
     }
 }

@@ -2,7 +2,9 @@
 ghost use Rattle.std.specs.Prelude.{◌≡◌, ◌<◌};
 ghost use Rattle.graph.specs.Claim.{edge_count, jump_of, target_of};
 ghost use Rattle.graph.specs.Rules.{starts_at_no_jump, ends_outside_code, lacks_edge};
-ghost use Rattle.lists.specs.Search.{first};
+ghost use Rattle.lists.specs.Search.{first, count};
+ghost use Rattle.checker.specs.Ends.{is_jump_at};
+ghost use Rattle.checker.specs.Passes.{unless_some};
 
 use crate::claim::{Claim, Code};
 use isa::Kind;
@@ -46,12 +48,14 @@ pub(crate) fn first_outside_code(n: usize, edges: &[u16]) -> Option<usize>
     (0..edges.len() / 2).find(|k| n <= target_number(edges, *k))
 }
 
-// Rule 9: the lowest jmp without an edge. Edge k is the first that starts at a or above; where no jmp is, none starts.
-#[tactic(auto, using(lists::proofs::First::first_none))]
-pub(crate) fn first_without_edge(claim: &Claim<'_>) -> Option<usize>
-    ensures { result ≡ first (lacks_edge claim.now.code.memory.now claim.now.edges.now) claim.now.code.n }
+// Rule 9: how many jmps there are, where each has an edge; or the lowest that has none. Edge k is the first that starts at a or above;
+// where no jmp is, none starts.
+#[tactic(auto, using(lists::proofs::First::first_none, lists::proofs::Counts::count_none))]
+pub(crate) fn jumps_with_edges(claim: &Claim<'_>) -> Result<usize, usize>
+    ensures { result ≡ unless_some (count (is_jump_at claim.now.code.memory.now) claim.now.code.n) (first (lacks_edge claim.now.code.memory.now claim.now.edges.now) claim.now.code.n) }
 {
     let mut k = 0;
+    let mut jumps = 0;
     // A `for`: the closure of a `find` would have to write k on the side.
     for a in 0..claim.code.n {
         if !claim.code.is_at(Kind::Jmp, a) {
@@ -59,9 +63,10 @@ pub(crate) fn first_without_edge(claim: &Claim<'_>) -> Option<usize>
         }
         let end = claim.run_end(k, a);
         if end == k {
-            return Some(a);
+            return Err(a);
         }
         k = end;
+        jumps += 1;
     }
-    None
+    Ok(jumps)
 }

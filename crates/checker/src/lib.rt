@@ -4,6 +4,7 @@
 ghost use Rattle.std.specs.Prelude.{◌≡◌, Ok, IfOk};
 ghost use Rattle.std.specs.Result.{result_and};
 ghost use Rattle.checker.specs.Verdicts.{first_broken, guard_rules, verdict_of, claim_verdict_of};
+ghost use Rattle.checker.specs.Ends.{ends_of};
 ghost use Rattle.checker.specs.Steps.{to_claim, to_graph, from_sets, from_labels};
 
 mod branches;
@@ -17,7 +18,7 @@ mod unguarded;
 use answers::{Fault, Place, Refusal, Verdict, call_shaped, refuse_at};
 use branches::first_wrong_branch;
 use claim::{Claim, Code, Graph};
-use edges::{first_from_no_jump, first_outside_code, first_without_edge};
+use edges::{first_from_no_jump, first_outside_code, jumps_with_edges};
 use isa::{Technique, is_illegal};
 use labels::first_label_wrong;
 use rising::first_not_rising;
@@ -37,18 +38,28 @@ pub fn check(technique: Technique, memory: &[u64], n: usize, edges: &[u16]) -> V
     check_sets(technique, claim)
 }
 
-// The rules that speak of memory and graph alone, whatever the code's labels and guards: 6, 7, 8, 18, 9 and 10.
+// How many of a code's words are a jmp, and how many of its addresses are destinations.
+#[derive(Clone, Copy, Debug, PartialEq, Eq)]
+pub struct Ends {
+    pub jumps: usize,
+    pub destinations: usize,
+}
+
+// The rules that speak of memory and graph alone, whatever the code's labels and guards: 6, 7, 8, 18, 9 and 10. Where they let a claim
+// through, how many jumps and destinations it has.
 #[tactic(auto, using(crate::proofs::Rules::claim_verdict_by))]
 #[inline(never)]
-pub fn check_claim(memory: &[u64], n: usize, edges: &[u16]) -> Verdict
-    ensures { result ≡ claim_verdict_of memory.now n edges.now }
+pub fn check_claim(memory: &[u64], n: usize, edges: &[u16]) -> Result<Ends, Fault>
+    ensures { result ≡ result_and (claim_verdict_of memory.now n edges.now) (Ok (ends_of memory.now n edges.now)) }
 {
     let claim = claim_of(memory, n, edges)?;
     check_graph(claim)
 }
 
-// The claim, where 6, 7, 8 and 18 let it through.
+// The claim, where 6, 7, 8 and 18 let it through. Inlined, here and below: a small program is not to wait for the answer to go through
+// memory (docs/PERFORMANCE.md).
 #[tactic(auto, using(crate::proofs::Rules::broken_next, crate::proofs::Rules::broken_once, crate::proofs::Rules::kept_once, crate::proofs::Rules::no_rule, crate::proofs::Rules::claimed_by))]
+#[inline(always)]
 fn claim_of<'a>(memory: &'a [u64], n: usize, edges: &'a [u16]) -> Result<Claim<'a>, Fault>
     ensures is { result_and result (Ok tt) ≡ first_broken (to_claim memory.now n edges.now) }
     ensures made { IfOk result (λ claim. (claim.code.memory.now ≡ memory.now) × (claim.code.n ≡ n) × (claim.edges.now ≡ edges.now)) }
@@ -78,25 +89,35 @@ fn check_sets(technique: Technique, claim: Claim<'_>) -> Verdict
 }
 
 // Rules 9 and 10 alone.
-fn check_graph(claim: Claim<'_>) -> Verdict
-    ensures { result ≡ first_broken (to_graph claim.entry.code.memory.now claim.entry.code.n claim.entry.edges.now) }
+fn check_graph(claim: Claim<'_>) -> Result<Ends, Fault>
+    ensures { result ≡ result_and (first_broken (to_graph claim.entry.code.memory.now claim.entry.code.n claim.entry.edges.now)) (Ok (ends_of claim.entry.code.memory.now claim.entry.code.n claim.entry.edges.now)) }
 {
     let mut own = [0; 2048];
-    graph_of(&claim, &mut own)?;
-    Ok(())
+    let graph = graph_of(&claim, &mut own)?;
+    Ok(Ends {
+        jumps: graph.jumps,
+        destinations: graph.destinations(),
+    })
 }
 
 // The graph of a claim that 9 and 10 let through.
 #[tactic(auto, using(crate::proofs::Rules::broken_next, crate::proofs::Rules::no_rule))]
+#[inline(always)]
 fn graph_of<'a>(claim: &Claim<'a>, own: &'a mut [u16; 2048]) -> Result<Graph<'a>, Fault>
     ensures is { result_and result (Ok tt) ≡ first_broken (to_graph claim.now.code.memory.now claim.now.code.n claim.now.edges.now) }
     ensures made { IfOk result (λ graph. graph.claim ≡ claim.now) }
 {
-    let a = first_without_edge(claim);
-    refuse_at(Refusal::JumpWithoutEdge, a.map(Place::Address))?;
+    let jumps = jumps_with_edges(claim).map_err(|a| Fault {
+        refusal: Refusal::JumpWithoutEdge,
+        place: Place::Address(a),
+    })?;
     let b = first_overlap(claim, own);
     refuse_at(Refusal::TargetSetsOverlap, b.map(Place::Address))?;
-    Ok(Graph { claim: *claim, own })
+    Ok(Graph {
+        claim: *claim,
+        own,
+        jumps,
+    })
 }
 
 // Rules 11 and 12, and those after them.

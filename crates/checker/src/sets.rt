@@ -15,7 +15,9 @@ use crate::claim::Claim;
 use crate::edges::jump_number;
 
 // Rule 10: the lowest jump whose target set meets another's and differs from it; where there is none, `own` has each address's owner.
+// Not inlined: in one frame with `own` the compiler clears `size` two times.
 #[tactic(auto, using(crate::proofs::TargetSets::none_broken, crate::proofs::TargetSets::overlapped))]
+#[inline(never)]
 pub(crate) fn first_overlap(claim: &Claim<'_>, own: &mut [u16; 2048]) -> Option<usize>
     ensures { Overlapped result claim.now.edges.now claim.now.code.n own.new }
 {

@@ -1,3 +1,4 @@
 pub mod Edges
+pub mod Owners
 pub mod Labels
 pub mod Apart

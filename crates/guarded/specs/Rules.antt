@@ -52,7 +52,3 @@ length_rule t memory n edges = rule_once Refusal.ResultTooLong (too_long t memor
 -- memory is n words of bare code and then the data; `Ok tt` where it may be rewritten
 unfoldable pub bare_verdict_of : Technique → List ℕ → ℕ → List ℕ → Verdict
 bare_verdict_of t memory n edges = first_broken (claim_rules memory n edges (word_rules memory n (length_rule t memory n edges)))
-
--- the verdict of all but 22: whatever the length of the result
-unfoldable pub words_verdict_of : List ℕ → ℕ → List ℕ → Verdict
-words_verdict_of memory n edges = first_broken (claim_rules memory n edges (word_rules memory n []))

@@ -82,8 +82,9 @@ pub fn decode(word: u64) -> Instr
     }
 }
 
-// Here too each arm has a constant kind.
+// Here too each arm has a constant kind. Inlined, a guard's word is a constant (docs/PERFORMANCE.md).
 #[tactic(auto, unfolding(crate::specs::Words::encode_of, crate::specs::Words::word_of))]
+#[inline(always)]
 pub fn encode(i: Instr) -> u64
     ensures { result ≡ encode_of i }
 {

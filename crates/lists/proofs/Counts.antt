@@ -1,12 +1,16 @@
 -- Laws of counts: of equal tests, of a part, and of one member more.
 use Prim.Native.Nat.{ℕ, zero, suc, ◌+◌, ◌<◌, ◌≤◌}
-use mathlib.Core.Path.{◌≡◌, refl, sym, subst}
+use mathlib.Core.Path.{◌≡◌, refl, sym, subst, ◌∙◌}
 use mathlib.Core.Bool.{Bool, true, false, cond}
 use mathlib.Core.Logic.{⊎_elim, ◌≢◌}
 use native.Mathlib.Omega.{arith}
 use native.Mathlib.Nat.{eq-or-lt_of_le, le_of_suc-le-suc, not-suc-le-zero}
 use native.Mathlib.Numerals.{add-one}
-use Rattle.lists.specs.Tables.{count, bit}
+use native.Mathlib.Nat.{zero-add}
+use lib.ListN.{length, get_or}
+use mathlib.Core.List.{List, [], ◌∷◌}
+use Rattle.std.specs.Prelude.{fold, count_by}
+use Rattle.lists.specs.Search.{count, bit}
 
 bit_le : (a b : Bool) → (a ≡ true → b ≡ true) → bit a ≤ bit b
 bit_le true b h = rw (h refl) (omega arith)
@@ -17,6 +21,10 @@ bit_eq true true e = refl
 bit_eq true false e = absurd (omega arith)
 bit_eq false true e = absurd (omega arith)
 bit_eq false false e = refl
+
+pub count_none : (f : ℕ → Bool) → 0 ≡ count f 0
+unfolding count
+count_none f = refl
 
 pub count_more : (f : ℕ → Bool) (k : ℕ) → count f (k + 1) ≡ bit (f k) + count f k
 unfolding count
@@ -90,3 +98,24 @@ count_flip f g (suc n) t l h e =
         → bit (g n) + count g n ≡ cond b (bit (f n) + count f n) (bit (f n) + count f n + 1)
     there true p q = rw (q, p)
     there false p q = rw (q, p) (omega arith)
+
+-- the numbers of a list that pass a test, as a chain counts them
+count_front : (f : ℕ → Bool) (n : ℕ) → count f (suc n) ≡ bit (f 0) + count (λ k. f (suc k)) n
+unfolding count
+count_front f zero = refl
+count_front f (suc n) = omega (arith, count_front f n)
+
+count_from : (p : ℕ → Bool) (xs : List ℕ) (m : ℕ)
+    → fold (λ (a : ℕ) (x : ℕ). a + cond (p x) 1 0) m xs ≡ m + count (λ k. p (get_or xs k 0)) (length xs)
+unfolding count
+count_from p [] m = let e : m ≡ m + 0 = omega arith in e
+count_from p (x ∷ xs) m =
+    count_from p xs (m + cond (p x) 1 0)
+    ∙ omega (arith, flag (p x), count_front (λ k. p (get_or (x ∷ xs) k 0)) (length xs))
+  where
+    flag : (b : Bool) → cond b 1 0 ≡ bit b
+    flag true = refl
+    flag false = refl
+
+pub count_by_count : (p : ℕ → Bool) (xs : List ℕ) → count_by p xs ≡ count (λ k. p (get_or xs k 0)) (length xs)
+count_by_count p xs = count_from p xs 0 ∙ zero-add (count (λ k. p (get_or xs k 0)) (length xs))

@@ -1,18 +1,13 @@
 -- Laws of arrays with a meaning for each index: a new one, and how a store changes it.
-use Prim.Native.Nat.{ℕ, ◌<◌, ◌≤◌}
+use Prim.Native.Nat.{ℕ, ◌<◌}
 use mathlib.Core.Path.{◌≡◌, sym, subst, ◌∙◌}
 use mathlib.Core.Logic.{◌≢◌}
 use mathlib.Core.List.{List}
 use native.Mathlib.Omega.{arith}
 use native.Mathlib.Decide.{ℕ_discrete}
-use lib.ListN.{get_or, set, replicate, length-set, length-replicate, get_or-replicate}
+use lib.ListN.{get_or, set, length-set}
 use lib.Seq.{get_or-set_same, get_or-set_other}
 use Rattle.lists.specs.Tables.{Table}
-
--- a new array
-pub table_new : (v n : ℕ) → n ≤ 2048 → Table (replicate 2048 v) n (λ _. v)
-table_new v n l =
-    record { size = length-replicate {A = ℕ} 2048 v; each = λ j q. get_or-replicate {A = ℕ} 2048 j v 0 (omega arith) }
 
 pub table_as : {xs : List ℕ} {n : ℕ} {F : ℕ → ℕ} (G : ℕ → ℕ) → Table xs n F → ((j : ℕ) → j < n → F j ≡ G j) → Table xs n G
 table_as G h e = record { size = h.size; each = λ j l. h.each j l ∙ e j l }

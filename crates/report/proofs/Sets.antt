@@ -14,7 +14,7 @@ use lib.ListN.{get_or}
 use Rattle.lists.specs.Search.{any, count}
 use Rattle.lists.proofs.Bools.{clash, same_bool, true_false, refuted}
 use Rattle.lists.proofs.Search.{lowest_ext, any_ext, any_clean, any_none, any_witness}
-use Rattle.lists.proofs.Counts.{count_ext, count_zero}
+use Rattle.lists.proofs.Counts.{count_ext, count_zero, count_by_count}
 use Rattle.isa.specs.declared.Kind.{Kind}
 use Rattle.isa.specs.Instructions.{instr_at, is_jump}
 use Rattle.graph.specs.Claim.{edge_count, is_edge, has_edge, id_of}
@@ -23,7 +23,7 @@ use Rattle.graph.proofs.Edges.{has_edge_lem, edge_below, id_below}
 use Rattle.report.specs.declared.Freedom.{Freedom}
 use Rattle.report.specs.Figures.{words_of_kind, freedom_by, set_size, is_new_set, sets_of, highest, largest_of, figures_of}
 use Rattle.report.specs.Inside.{label_at, set_at, times_in, labels_of, jumps_of, figures_read, Held, Counted, number_or}
-use Rattle.report.proofs.Sums.{highest_ext, highest_above, highest_least, any_count, is_new, new_count, fold_highest, count_by_count}
+use Rattle.report.proofs.Sums.{highest_ext, highest_above, highest_least, any_count, is_new, new_count, fold_highest}
 use Rattle.report.proofs.AsListed.{distinct_listed}
 
 -- ---- all figures, from what the passes answer

@@ -1,6 +1,6 @@
 -- Sums, highest numbers and counts over the numbers below a bound: one more at a time, and counts by number.
 use Prim.Native.Nat.{ℕ, zero, suc, max, ◌+◌, ◌-◌, ◌<◌, ◌≤◌}
-use Rattle.std.specs.Prelude.{Option, fold, count_by}
+use Rattle.std.specs.Prelude.{Option, fold}
 use Rattle.std.proofs.lemmas.List.{get_or-take}
 use mathlib.Core.Path.{◌≡◌, refl, sym, ap, ap₂, subst, ◌∙◌}
 use mathlib.Core.Bool.{Bool, true, false, not, cond, ◌&&◌, ◌||◌}
@@ -9,7 +9,7 @@ use mathlib.Core.Logic.{⊎_elim}
 use native.Mathlib.Omega.{arith}
 use native.Mathlib.Numerals.{add-one}
 use native.Mathlib.Decide.{ℕ_discrete}
-use native.Mathlib.Nat.{zero-add, le_trans, max-le, le-max_left, le-max_right, not-suc-le-zero, eq-or-lt_of_le, le_of_suc-le-suc}
+use native.Mathlib.Nat.{le_trans, max-le, le-max_left, le-max_right, not-suc-le-zero, eq-or-lt_of_le, le_of_suc-le-suc}
 use borrow.Author.Tests.{eq-eqb, ne_eqb, ltb-true, ltb-false}
 use lib.Dec.{eqb, ltb}
 use lib.ListN.{get_or, set, take, length, replicate, length-take, length-set, length-replicate, get_or-replicate}
@@ -147,26 +147,6 @@ fold_max (x ∷ xs) m = fold_max xs (max m x) ∙ omega (arith, highest_front (�
 
 pub fold_highest : (xs : List ℕ) → fold max 0 xs ≡ highest (λ k. get_or xs k 0) (length xs)
 fold_highest xs = omega (arith, fold_max xs 0)
-
-count_front : (f : ℕ → Bool) (n : ℕ) → count f (suc n) ≡ bit (f 0) + count (λ k. f (suc k)) n
-unfolding count
-count_front f zero = refl
-count_front f (suc n) = omega (arith, count_front f n)
-
-count_from : (p : ℕ → Bool) (xs : List ℕ) (m : ℕ)
-    → fold (λ (a : ℕ) (x : ℕ). a + cond (p x) 1 0) m xs ≡ m + count (λ k. p (get_or xs k 0)) (length xs)
-unfolding count
-count_from p [] m = let e : m ≡ m + 0 = omega arith in e
-count_from p (x ∷ xs) m =
-    count_from p xs (m + cond (p x) 1 0)
-    ∙ omega (arith, flag (p x), count_front (λ k. p (get_or (x ∷ xs) k 0)) (length xs))
-  where
-    flag : (b : Bool) → cond b 1 0 ≡ bit b
-    flag true = refl
-    flag false = refl
-
-pub count_by_count : (p : ℕ → Bool) (xs : List ℕ) → count_by p xs ≡ count (λ k. p (get_or xs k 0)) (length xs)
-count_by_count p xs = count_from p xs 0 ∙ zero-add (count (λ k. p (get_or xs k 0)) (length xs))
 
 -- ---- numbers that are new: other than 0, and no earlier one is the same. There are as many as different numbers occur
 abbrev pub is_new : (ℕ → ℕ) → ℕ → Bool

@@ -1,23 +1,20 @@
--- Blocks put one after the other into a lent place, over any blocks: code, edges and map are all put so. And the array of entries, one more
--- at a time.
-use Prim.Native.Nat.{ℕ, zero, suc, ◌+◌, ◌-◌, ◌*◌, ◌<◌, ◌≤◌}
-use mathlib.Core.Path.{◌≡◌, refl, sym, ap, subst, ◌∙◌}
+-- Blocks put one after the other into a lent place, over any blocks: code, edges and map are all put so. What is past the blocks that are
+-- put is what was there before.
+use Prim.Native.Nat.{ℕ, suc, ◌+◌, ◌-◌, ◌*◌, ◌<◌, ◌≤◌}
+use mathlib.Core.Path.{◌≡◌, refl, sym, ap, ◌∙◌}
 use mathlib.Core.List.{List, [], ◌∷◌, ◌++◌}
 use native.Mathlib.Omega.{arith}
 use native.Mathlib.Numerals.{add-one}
-use native.Mathlib.Decide.{ℕ_discrete}
-use lib.ListN.{length, get_or, set, take, drop, length-set}
-use lib.Seq.{sets, length-sets, take-suc, get_or-set_same, get_or-set_other}
-use Rattle.lists.specs.Tables.{Table}
+use lib.ListN.{length, get_or, set, take, drop, get_or-append, length-drop}
+use lib.Seq.{sets, length-sets, length-take-le, get_or-append-add, get_or-drop}
 use Rattle.lists.proofs.Places.{sets_append, over_front}
 use Rattle.isa.specs.declared.Technique.{Technique}
 use Rattle.graph.specs.Claim.{jump_of, target_of}
 use Rattle.guarded.specs.Blocks.{start_of, laid}
-use Rattle.guarded.specs.Rewrite.{block_size, new_edge}
-use Rattle.guarded.proofs.Blocks.{start_next, laid_length, sets_laid, ones_length}
-use Rattle.guarded.proofs.Places.{map_lt}
+use Rattle.guarded.specs.Rewrite.{new_edge}
+use Rattle.guarded.proofs.Blocks.{laid_length, sets_laid, start_ones, ones_length, ones_at}
 use Rattle.guarded.proofs.Claims.{pair, start_pairs}
-use Rattle.rewrite.specs.Inside.{map_plain, Ready}
+use Rattle.rewrite.specs.Inside.{map_plain, entries_plain, Mapped}
 
 -- the first a blocks are put
 pub record Putting (block : ℕ → List ℕ) (before out : List ℕ) (a : ℕ) : Type 0 where
@@ -49,62 +46,69 @@ module _ (block : ℕ → List ℕ) (size : ℕ → ℕ) (fit : (a : ℕ) → le
       ∙ ap (λ (y : ℕ). set (sets before 0 (laid block m)) y x) q
       ∙ sym (sets_append (laid block m) (x ∷ []) before 0)
 
+  -- past them
+  pub put_past : {before out : List ℕ} {a : ℕ} (x : ℕ) → Putting block before out a → start_of size a ≤ length before → start_of size a ≤ x
+      → get_or out x 0 ≡ get_or before x 0
+  put_past {before} {out} {a} x p l h =
+      let len = laid_length block size fit a in
+      let place : x ≡ length (laid block a) + (x - length (laid block a)) = omega (arith, len) in
+      let back : length (laid block a) + (x - length (laid block a)) ≡ x = omega (arith, len) in
+      ap (λ (xs : List ℕ). get_or xs x 0) (p.left ∙ over_front (laid block a) before (omega (arith, len)))
+      ∙ ap (λ (y : ℕ). get_or (laid block a ++ drop (length (laid block a)) before) y 0) place
+      ∙ get_or-append-add (laid block a) (drop (length (laid block a)) before) (x - length (laid block a)) 0
+      ∙ get_or-drop (length (laid block a)) before (x - length (laid block a)) 0
+      ∙ ap (λ (y : ℕ). get_or before y 0) back
+
+-- blocks of one number
+module _ (f : ℕ → ℕ) where
+  abbrev ones : ℕ → List ℕ
+  ones a = f a ∷ []
+
+  pub ones_more : {before out : List ℕ} {a v : ℕ} → Putting ones before out a → v ≡ f a → Putting ones before (set out a v) (a + 1)
+  ones_more {before} {out} {a} p e =
+      put_more ones (λ _. 1) (λ a. refl) p (ap (set out a) e ∙ ap (λ (x : ℕ). sets out x (f a ∷ [])) (sym (start_ones a)))
+
+  pub ones_put : {before out : List ℕ} {a : ℕ} (x : ℕ) → Putting ones before out a → a ≤ length before → x < a → get_or out x 0 ≡ f x
+  ones_put {before} {out} {a} x p l h =
+      let len = ones_length f a in
+      ap (λ (xs : List ℕ). get_or xs x 0) (p.left ∙ over_front (laid ones a) before (omega (arith, len)))
+      ∙ get_or-append (laid ones a) (drop (length (laid ones a)) before) 0 x (omega (arith, len))
+      ∙ ones_at f a x h
+
+  pub ones_past : {before out : List ℕ} {a : ℕ} (x : ℕ) → Putting ones before out a → a ≤ length before → a ≤ x → get_or out x 0 ≡ get_or before x 0
+  ones_past {a = a} x p l h =
+      put_past ones (λ _. 1) (λ a. refl) x p (omega (arith, start_ones a)) (omega (arith, start_ones a))
+
 -- one edge more
-module _ {memory : List ℕ} {n : ℕ} {edges : List ℕ} {total : ℕ} {entries ids own : List ℕ} (r : Ready memory n edges total entries ids own) where
-  pub entry_above : {j : ℕ} → j < n → 1 ≤ get_or entries (j + 1) 0
-  entry_above {j} l = omega (arith, r.entries_are.each (j + 1) (omega arith), map_lt Technique.Plain memory edges 0 (j + 1) (omega arith))
+pub edge_more : {memory : List ℕ} {n : ℕ} {edges entries before out : List ℕ} {k j at x : ℕ} → Mapped memory n edges entries
+    → Putting (new_edge Technique.Plain memory edges) before out k → at ≡ map_plain memory n edges (suc j) → j ≡ jump_of edges k
+    → x ≡ target_of edges k → x < n
+    → Putting (new_edge Technique.Plain memory edges) before (set (set out (2 * k) (at - 1)) (2 * k + 1) (get_or entries x 0)) (k + 1)
+unfolding new_edge
+edge_more {memory} {n} {edges} {entries} {before} {out} {k} {j} {at} {x} m p ea ej ex l =
+    put_more (new_edge Technique.Plain memory edges) (λ _. 2) (pair Technique.Plain memory edges) p
+    (rw (start_pairs k, m.each x l, ea, ej, ex, add-one) refl)
 
-  pub edge_more : {before out : List ℕ} {k j x : ℕ} → Putting (new_edge Technique.Plain memory edges) before out k → j ≡ jump_of edges k → j < n
-      → x ≡ target_of edges k → x < n
-      → Putting (new_edge Technique.Plain memory edges) before (set (set out (2 * k) (get_or entries (j + 1) 0 - 1)) (2 * k + 1) (get_or entries x 0)) (k + 1)
-  unfolding new_edge
-  edge_more {before} {out} {k} {j} {x} p ej lj ex lx =
-      put_more (new_edge Technique.Plain memory edges) (λ _. 2) (pair Technique.Plain memory edges) p
-      (rw (start_pairs k, r.entries_are.each (j + 1) (omega arith), r.entries_are.each x (omega arith), ej, ex, add-one, add-one) refl)
+-- the map, once all entries are put
+pub mapped_by : {memory : List ℕ} {n : ℕ} {edges entries : List ℕ} (before : List ℕ) → entries ≡ sets before 0 (entries_plain memory n edges)
+    → n ≤ length before → Mapped memory n edges entries
+mapped_by {memory} {n} {edges} {entries} before e l =
+    let all : Putting (λ a. map_plain memory n edges a ∷ []) before entries n =
+    record { long = ap length e ∙ length-sets before 0 (entries_plain memory n edges); left = e } in
+    record { long = omega (arith, all.long); each = λ a h. ones_put (map_plain memory n edges) a all l h }
 
--- one entry more
-pub table_grow : {xs : List ℕ} {n : ℕ} {F : ℕ → ℕ} {v : ℕ} → Table xs n F → n < 2048 → v ≡ F n → Table (set xs n v) (n + 1) F
-table_grow {xs} {n} {F} {v} h l e = record { size = length-set xs n v ∙ h.size; each = λ j q. go j q (ℕ_discrete j n) }
-  where
-    go : (j : ℕ) → j < n + 1 → Dec (j ≡ n) → get_or (set xs n v) j 0 ≡ F j
-    go j q (yes p) =
-        subst (λ (x : ℕ). get_or (set xs n v) x 0 ≡ F x) (sym p) (get_or-set_same xs n v 0 (let z = h.size in omega arith) ∙ e)
-    go j q (no p) = get_or-set_other xs n j v 0 p ∙ h.each j (omega arith)
+-- what is put over a front is put over what was there before that front
+pub over_front_put : (xs after before : List ℕ) (k : ℕ) → length xs ≡ k → length after ≡ length before → drop k after ≡ drop k before
+    → k ≤ length before → sets after 0 xs ≡ sets before 0 xs
+over_front_put xs after before k e l d h =
+    over_front xs after (omega arith)
+    ∙ ap (λ (j : ℕ). xs ++ drop j after) e
+    ∙ ap (λ (ys : List ℕ). xs ++ ys) d
+    ∙ ap (λ (j : ℕ). xs ++ drop j before) (sym e)
+    ∙ sym (over_front xs before (omega arith))
 
--- the entries of the first a addresses are there, and the next block begins at `at`
-pub record Entering (memory : List ℕ) (n : ℕ) (edges entries : List ℕ) (at a : ℕ) : Type 0 where
-  pub upto : a ≤ n
-  pub next : at ≡ map_plain memory n edges a
-  pub small : at ≤ 7 * a
-  pub filled : Table entries a (map_plain memory n edges)
-
-module _ {memory : List ℕ} {n : ℕ} {edges : List ℕ} where
-  pub entry_none : {entries : List ℕ} → length entries ≡ 2048 → Entering memory n edges entries 0 0
-  unfolding start_of
-  entry_none e =
-      record { upto = omega arith; next = refl; small = omega arith; filled = record { size = e; each = λ j l. absurd (omega arith) } }
-
-  pub entry_more : {entries : List ℕ} {at a size : ℕ} → n ≤ 2048 → Entering memory n edges entries at a → a < n
-      → (size ≡ block_size Technique.Plain memory edges a) × (size ≤ 7) → Entering memory n edges (set entries a at) (at + size) (a + 1)
-  entry_more {entries} {at} {a} {size} s m l z =
-      record {
-        upto = omega arith;
-        next = rw add-one (omega (arith, m.next, z.0, start_next (block_size Technique.Plain memory edges) a));
-        small = omega (arith, m.small, z.1);
-        filled = table_grow m.filled (omega arith) m.next;
-      }
-
--- the entries of the map are the front of the array
-entries_front : (F : ℕ → ℕ) (xs : List ℕ) (n : ℕ) → n ≤ length xs → ((j : ℕ) → j < n → get_or xs j 0 ≡ F j) → take n xs ≡ laid (λ a. F a ∷ []) n
-unfolding laid
-entries_front F xs zero l h = refl
-entries_front F xs (suc n) l h =
-    take-suc xs n 0 (omega arith)
-    ∙ (rw (entries_front F xs n (omega arith) (λ j q. h j (omega arith)), h n (omega arith)) refl)
-
-pub entries_put : {F : ℕ → ℕ} {xs : List ℕ} {n : ℕ} (l : List ℕ) → Table xs (n + 1) F → n < 2048 → n ≤ length l
-    → take n xs ++ drop n l ≡ sets l 0 (laid (λ a. F a ∷ []) n)
-entries_put {F} {xs} {n} l t s h =
-    let e = entries_front F xs n (let z = t.size in omega arith) (λ j q. t.each j (omega arith)) in
-    let z = ones_length F n in
-    rw e (sym (over_front (laid (λ a. F a ∷ []) n) l (omega arith) ∙ ap (λ (k : ℕ). laid (λ a. F a ∷ []) n ++ drop k l) z))
+-- the k numbers before a place
+pub part_length : (k : ℕ) (xs : List ℕ) (end : ℕ) → k ≤ end → end ≤ length xs → length (take (end - (end - k)) (drop (end - k) xs)) ≡ k
+part_length k xs end l h =
+    let z : end - (end - k) ≡ k = omega arith in
+    length-take-le (end - (end - k)) (drop (end - k) xs) (omega (arith, length-drop (end - k) xs)) ∙ z

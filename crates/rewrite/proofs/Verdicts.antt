@@ -1,8 +1,9 @@
--- From a verdict to the answer: what the checker's answer leaves to be asked, and what each refusal and the end of the writing come to.
-use Prim.Native.Nat.{ℕ, ◌-◌, ◌%◌, ◌<◌, ◌≤◌}
-use mathlib.Core.Path.{◌≡◌, refl, ap, ◌∙◌}
+-- From a verdict to the answer: what is known of bare code that no number up to 22 turns away, and what 5 and the end of the writing come
+-- to.
+use Prim.Native.Nat.{ℕ, ◌-◌, ◌%◌, ◌≤◌}
+use mathlib.Core.Path.{◌≡◌, refl, sym, ◌∙◌}
 use mathlib.Core.Bool.{Bool, true, false, ◌||◌}
-use mathlib.Core.List.{List, []}
+use mathlib.Core.List.{List}
 use native.Mathlib.Omega.{arith}
 use lib.Dec.{ltb, leb, eqb}
 use lib.ListN.{length}
@@ -14,25 +15,22 @@ use Rattle.lists.proofs.Places.{over_front}
 use Rattle.answers.specs.declared.Refusal.{Refusal}
 use Rattle.answers.specs.declared.Place.{Place}
 use Rattle.std.specs.Prelude.{Ok, Err}
-use Rattle.answers.specs.declared.Fault.{Fault}
-use Rattle.answers.specs.Faults.{fault, Verdict}
+use Rattle.answers.specs.Faults.{fault}
 use Rattle.answers.specs.Shape.{memory_shaped, edges_shaped}
 use Rattle.isa.specs.declared.Technique.{Technique}
 use Rattle.graph.specs.Claim.{is_edge, id_of}
 use Rattle.graph.specs.Passes.{Within}
 use Rattle.graph.proofs.Edges.{within_of, edge_below}
 use Rattle.graph.proofs.Apart.{apart_one}
-use Rattle.checker.specs.Verdicts.{first_broken, claim_rules}
-use Rattle.std.specs.Result.{result_and}
-use Rattle.checker.proofs.Rules.{broken_append, sized, few_edges}
+use Rattle.checker.proofs.Rules.{sized, few_edges}
 use Rattle.checker.proofs.Faultless.{ClaimFaultless, claim_passed}
-use Rattle.guarded.specs.Rules.{word_rules, bare_verdict_of, words_verdict_of}
+use Rattle.guarded.specs.Rules.{word_rules, length_rule, bare_verdict_of}
 use Rattle.guarded.proofs.Blocks.{ones_length}
 use Rattle.guarded.proofs.Places.{code_length}
 use Rattle.guarded.proofs.Claims.{edges_length}
-use Rattle.guarded.proofs.Theorems.{guards_put_in}
 use Rattle.rewrite.specs.Answers.{places_short, Put, plain_of}
-use Rattle.rewrite.specs.Inside.{OneId, Claim, length_plain, code_plain, edges_plain, entries_plain, map_plain, from_length, Bare, Laid, Ready}
+use Rattle.rewrite.proofs.Laying.{over_front_put}
+use Rattle.rewrite.specs.Inside.{OneId, Bare, LabelsIn, OwnersIn, length_plain, code_plain, edges_plain, entries_plain, map_plain}
 
 module _ (memory : List ℕ) (n : ℕ) (edges : List ℕ) where
   one_id : ClaimFaultless memory n edges → Within edges n → OneId edges n
@@ -42,11 +40,10 @@ module _ (memory : List ℕ) (n : ℕ) (edges : List ℕ) where
       let q = edge_below edges n w j a ja in
       lowest_ext (is_edge edges i) (is_edge edges j) n (apart_one edges n i j q.0 (f.sets_apart i p.0) a p.1 ia ja)
 
-  -- what the words' verdict leaves
-  pub bare_of : words_verdict_of memory n edges ≡ Ok tt → Bare memory n edges
-  unfolding words_verdict_of
-  bare_of e =
-      let p = claim_passed memory n edges (word_rules memory n []) e in
+  pub bare_of : {total : ℕ} → bare_verdict_of Technique.Plain memory n edges ≡ Ok tt → total ≡ length_plain memory n edges → Bare memory n edges total
+  unfolding bare_verdict_of
+  bare_of e t =
+      let p = claim_passed memory n edges (word_rules memory n (length_rule Technique.Plain memory n edges)) e in
       let f = p.0 in
       let m = and_left (memory_shaped (length memory) n) (edges_shaped (length edges)) f.shape in
       let g = and_right (memory_shaped (length memory) n) (edges_shaped (length edges)) f.shape in
@@ -54,33 +51,31 @@ module _ (memory : List ℕ) (n : ℕ) (edges : List ℕ) where
       let s = sized memory n m in
       let w = within_of memory edges n s.code_limit (few_edges (length edges) g) f.edges_start f.edges_end in
       record {
-        claim = record { sized = s; even = omega arith; within = w; leaving = f.jumps_leave; one_id = one_id f w };
+        sized = s;
+        even = omega arith;
+        within = w;
+        from_jumps = f.edges_start;
+        rising = f.edges_rise;
+        leaving = f.jumps_leave;
+        one_id = one_id f w;
         branches = p.1.1.0;
+        total_is = t;
+        short = omega (arith, t, ltb-false 2048 (length_plain memory n edges) (p.1.1.1.0 0 (omega arith)));
       }
 
-  -- the verdict on bare code: the words', and then 22
-  after_words : bare_verdict_of Technique.Plain memory n edges ≡ result_and (words_verdict_of memory n edges) (first_broken (from_length memory n edges))
-  unfolding bare_verdict_of words_verdict_of
-  after_words = broken_append (claim_rules memory n edges (word_rules memory n [])) (from_length memory n edges)
+-- the two places that held something else before are as if they had not
+pub code_over : {memory : List ℕ} {n : ℕ} {edges : List ℕ} {total : ℕ} {labelled code : List ℕ} → Bare memory n edges total
+    → LabelsIn memory n edges total labelled code → total ≤ length code
+    → sets labelled 0 (code_plain memory n edges) ≡ sets code 0 (code_plain memory n edges)
+code_over {memory} {n} {edges} {total} {labelled} {code} b x l =
+    over_front_put (code_plain memory n edges) labelled code total (code_length Technique.Plain memory n edges (length memory - n) ∙ sym b.total_is) x.long x.past l
 
-  pub words_kept : words_verdict_of memory n edges ≡ Ok tt
-      → bare_verdict_of Technique.Plain memory n edges ≡ first_broken (from_length memory n edges)
-  words_kept e = after_words ∙ ap (λ (v : Verdict). result_and v (first_broken (from_length memory n edges))) e
-
-  pub words_broken : {f : Fault} → words_verdict_of memory n edges ≡ Err f → bare_verdict_of Technique.Plain memory n edges ≡ Err f
-  words_broken e = after_words ∙ ap (λ (v : Verdict). result_and v (first_broken (from_length memory n edges))) e
-
--- 22 leaves a place for the end of the last block
-pub laid_below : {total : ℕ} {entries memory : List ℕ} {n : ℕ} {edges : List ℕ} → Laid total entries memory n edges → total ≤ 2048 → n < 2048
-laid_below {memory = memory} {n = n} {edges = edges} l s = omega (arith, l.total_is, guards_put_in.plain_length memory n edges)
-
-pub ready_below : {memory : List ℕ} {n : ℕ} {edges : List ℕ} {total : ℕ} {entries ids own : List ℕ} → Ready memory n edges total entries ids own
-    → n < 2048
-ready_below {memory} {n} {edges} r = omega (arith, r.total_is, r.short, guards_put_in.plain_length memory n edges)
+pub entries_over : (memory : List ℕ) {n : ℕ} {edges owners entries : List ℕ} → OwnersIn n edges owners entries → n ≤ length entries
+    → sets owners 0 (entries_plain memory n edges) ≡ sets entries 0 (entries_plain memory n edges)
+entries_over memory {n} {edges} {owners} {entries} x l = over_front_put (entries_plain memory n edges) owners entries n (ones_length (map_plain memory n edges) n) x.long x.past l
 
 -- 5, and the three places written
-module _ {memory : List ℕ} {n : ℕ} {edges : List ℕ} (c : Claim memory n edges) (code new_edges entries : List ℕ) {total : ℕ}
-    (t : total ≡ length_plain memory n edges) where
+module _ {memory : List ℕ} {n : ℕ} {edges : List ℕ} {total : ℕ} (b : Bare memory n edges total) (code new_edges entries : List ℕ) where
   short_is : places_short (plain_of memory n edges) code new_edges entries
       ≡ (ltb (length code) total || (ltb (length new_edges) (length edges) || ltb (length entries) n))
   short_is =
@@ -88,8 +83,8 @@ module _ {memory : List ℕ} {n : ℕ} {edges : List ℕ} (c : Claim memory n ed
         code_length Technique.Plain memory n edges (length memory - n),
         edges_length Technique.Plain memory edges,
         ones_length (map_plain memory n edges) n,
-        t,
-        ← c.even,
+        b.total_is,
+        ← b.even,
       )
 
   abbrev short : Bool
@@ -115,7 +110,8 @@ module _ {memory : List ℕ} {n : ℕ} {edges : List ℕ} (c : Claim memory n ed
       let cl = code_length Technique.Plain memory n edges (length memory - n) in
       let el = edges_length Technique.Plain memory edges in
       let ml = ones_length (map_plain memory n edges) n in
-      let ev = c.even in
+      let t = b.total_is in
+      let ev = b.even in
       record {
         answers = rw (short_is ∙ h) (rw (cl, el, ← t, ← ev));
         code_after = ec ∙ over_front (code_plain memory n edges) code (omega arith);

@@ -1,36 +1,19 @@
 -- What only the private functions of this crate promise each other: what the tests before them leave, and what stands in the arrays.
-use Rattle.std.specs.Prelude.{ℕ, ◌+◌, ◌-◌, ◌*◌, ◌/◌, ◌<◌, ◌≤◌, ◌≡◌, Bool, true, false, List, length}
-use Rattle.std.proofs.lemmas.List.Edits.{sets}
-use Rattle.lists.specs.Search.{lowest, bit}
-use Rattle.lists.specs.Tables.{Table}
+use Rattle.std.specs.Prelude.{ℕ, suc, ◌-◌, ◌*◌, ◌/◌, ◌<◌, ◌≤◌, ◌≡◌, true, false, List, length, get_or, drop}
+use Rattle.isa.specs.declared.Instr.{Instr}
 use Rattle.isa.specs.declared.Technique.{Technique}
-use Rattle.graph.specs.Claim.{is_edge, id_of}
-use Rattle.graph.specs.Rules.{lacks_edge}
-use Rattle.graph.specs.Passes.{Sized, Within, Owned, edge_in}
-use Rattle.checker.specs.Verdicts.{Rule}
-use Rattle.guarded.specs.Rewrite.{map_of, new_length, label_of, body_at, block_at, new_code, new_edges, new_map}
-use Rattle.guarded.specs.Rules.{branches_out, length_rule}
-
--- the lowest target of jump j among the first m edges, or n
-unfoldable pub id_in : List ℕ → ℕ → ℕ → ℕ → ℕ
-id_in edges n m j = lowest (edge_in edges m j) n
+use Rattle.isa.specs.Words.{encode_of}
+use Rattle.isa.specs.Instructions.{instr_at, is_jump}
+use Rattle.rising.specs.Rising.{not_rising}
+use Rattle.graph.specs.Claim.{edge_count, target_of, is_edge, is_destination, id_of}
+use Rattle.graph.specs.Rules.{starts_at_no_jump, lacks_edge}
+use Rattle.graph.specs.Passes.{Sized, Within, Owned}
+use Rattle.guarded.specs.Rewrite.{body_size, map_of, new_length, set_of, body_at, block_at, new_code, new_edges, new_map}
+use Rattle.guarded.specs.Rules.{branches_out}
 
 -- two jumps that share a target have one ID, as rule 10 asks
 abbrev pub OneId : List ℕ → ℕ → Type 0
 OneId edges n = (i j a : ℕ) → is_edge edges i a ≡ true → is_edge edges j a ≡ true → id_of edges n i ≡ id_of edges n j
-
--- bare code that 6 to 10 and 18 let through, as far as the writing needs it
-pub record Claim (memory : List ℕ) (n : ℕ) (edges : List ℕ) : Type 0 where
-  pub sized : Sized memory n
-  pub even : length edges ≡ 2 * (length edges / 2)
-  pub within : Within edges n
-  pub leaving : (a : ℕ) → a < n → lacks_edge memory edges a ≡ false
-  pub one_id : OneId edges n
-
--- and 21
-pub record Bare (memory : List ℕ) (n : ℕ) (edges : List ℕ) : Type 0 where
-  pub claim : Claim memory n edges
-  pub branches : (a : ℕ) → a < n → branches_out memory n a ≡ false
 
 module _ (memory : List ℕ) (n : ℕ) (edges : List ℕ) where
   abbrev pub map_plain : ℕ → ℕ
@@ -54,25 +37,45 @@ module _ (memory : List ℕ) (n : ℕ) (edges : List ℕ) where
   abbrev pub entries_plain : List ℕ
   entries_plain = new_map Technique.Plain memory n edges
 
-  -- 22 alone
-  abbrev pub from_length : List Rule
-  from_length = length_rule Technique.Plain memory n edges
+  -- where what stands for the word at a begins
+  abbrev pub body_from : ℕ → ℕ
+  body_from a = map_plain (suc a) - body_size Technique.Plain (instr_at memory a)
 
--- how long the new code is, and an array with where each block begins
-pub record Laid (total : ℕ) (entries : List ℕ) (memory : List ℕ) (n : ℕ) (edges : List ℕ) : Type 0 where
-  pub total_is : total ≡ length_plain memory n edges
-  pub entries_are : Table entries n (map_plain memory n edges)
+  -- each destination has its label in `code`
+  abbrev pub LabelsStand : List ℕ → Type 0
+  LabelsStand code =
+      (a : ℕ) → a < n → is_destination edges a ≡ true → get_or code (map_plain a) 0 ≡ encode_of (Instr.Label (map_plain (set_of edges n a)))
 
--- what the writing is given: 22 has passed, so there is a place for the end of the last block too
-pub record Ready (memory : List ℕ) (n : ℕ) (edges : List ℕ) (total : ℕ) (entries ids own : List ℕ) : Type 0 where
-  pub bare : Bare memory n edges
-  pub total_is : total ≡ length_plain memory n edges
-  pub short : total ≤ 2048
-  pub entries_are : Table entries (n + 1) (map_plain memory n edges)
-  pub ids_are : Table ids n (id_of edges n)
-  pub owned : Owned edges n own
+  -- an array with where each block begins
+  pub record Mapped (entries : List ℕ) : Type 0 where
+    pub long : n ≤ length entries
+    pub each : (a : ℕ) → a < n → get_or entries a 0 ≡ map_plain a
 
--- what putting a label answers, the place behind it, and leaves
-pub record Labelled (r : ℕ) (code' code : List ℕ) (at : ℕ) (destination : Bool) (id : ℕ) : Type 0 where
-  pub behind : r ≡ at + bit destination
-  pub left : code' ≡ sets code at (label_of destination id)
+  -- if a jmp is at a, its first edge is k, which goes to the lowest target
+  abbrev pub StartsAt : ℕ → ℕ → Type 0
+  StartsAt a k = is_jump (instr_at memory a) ≡ true → (k < edge_count edges) × (target_of edges k ≡ id_of edges n a)
+
+  -- bare code that no number up to 22 turns away, as far as the writing needs it, and the length of what comes out
+  pub record Bare (total : ℕ) : Type 0 where
+    pub sized : Sized memory n
+    pub even : length edges ≡ 2 * (length edges / 2)
+    pub within : Within edges n
+    pub from_jumps : (k : ℕ) → k < edge_count edges → starts_at_no_jump memory n edges k ≡ false
+    pub rising : (k : ℕ) → k < edge_count edges → not_rising edges k ≡ false
+    pub leaving : (a : ℕ) → a < n → lacks_edge memory edges a ≡ false
+    pub one_id : OneId edges n
+    pub branches : (a : ℕ) → a < n → branches_out memory n a ≡ false
+    pub total_is : total ≡ length_plain
+    pub short : total ≤ 2048
+
+  -- the labels were put, and nothing past the new code
+  pub record LabelsIn (total : ℕ) (code' code : List ℕ) : Type 0 where
+    pub long : length code' ≡ length code
+    pub past : drop total code' ≡ drop total code
+    pub stand : LabelsStand code'
+
+-- the place of the map, while it holds the owners
+pub record OwnersIn (n : ℕ) (edges map' map : List ℕ) : Type 0 where
+  pub long : length map' ≡ length map
+  pub past : drop n map' ≡ drop n map
+  pub owned : Owned edges n map'

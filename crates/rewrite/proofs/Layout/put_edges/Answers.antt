@@ -1,16 +1,11 @@
--- `Layout::put_edges` meets its contract: both ends of an edge have entries, and its two numbers are those of the new edge (`Laying`).
+-- `Layout::put_edges` meets its contract: the two numbers of an edge are those of the new one (`Laying`).
 use native.Mathlib.Omega.{arith}
-use Rattle.rewrite.proofs.Laying.{entry_above, edge_more}
-use Rattle.rewrite.proofs.Verdicts.{ready_below}
+use Rattle.rewrite.proofs.Laying.{edge_more}
 use Rattle.rewrite.proofs.Layout.put_edges.Goals as goal
 
-pub bounds-self-j : goal.bounds-self-j
-bounds-self-j c = omega (arith, c.jump_of-j.ensures.below, ready_below c.args.self.now.ready)
-
-pub overflow_sub-new_edges : goal.overflow_sub-new_edges
-overflow_sub-new_edges c = entry_above c.args.self.now.ready c.jump_of-j.ensures.below
+pub overflow_cast-new_edges : goal.overflow_cast-new_edges
+overflow_cast-new_edges c = omega (arith, c.block_end.ensures.2, c.args.self.now.bare.passed.short)
 
 pub loop-k-preserved : goal.loop-k-preserved
 loop-k-preserved c =
-    edge_more c.args.self.now.ready c.loop-k.invariant c.jump_of-j.ensures.is c.jump_of-j.ensures.below
-    c.target_of-t.ensures.is c.target_of-t.ensures.below
+    edge_more c.args.self.now.mapped c.loop-k.invariant c.block_end.ensures.0 c.jump_of-j.ensures.is c.target_of-t.ensures.is c.target_of-t.ensures.below

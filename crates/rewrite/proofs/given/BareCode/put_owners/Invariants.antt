@@ -3,4 +3,4 @@ use Rattle.rewrite.proofs.TargetSets.{Owning}
 use Rattle.rewrite.proofs.given.BareCode.put_owners.Given as goal
 
 abbrev pub invariant-loop-k : goal.invariant-loop-k
-invariant-loop-k l = Owning l.self.edges.now l.self.n l.k l.own
+invariant-loop-k l = Owning l.self.edges.now l.self.n l.initial.map l.map l.k l.id
