@@ -46,9 +46,9 @@ pub struct Ends {
 }
 
 // The rules that speak of memory and graph alone, whatever the code's labels and guards: 6, 7, 8, 18, 9 and 10. Where they let a claim
-// through, how many jumps and destinations it has.
+// through, how many jumps and destinations it has. Inlined into its one caller, `bare`.
 #[tactic(auto, using(crate::proofs::Rules::claim_verdict_by))]
-#[inline(never)]
+#[inline(always)]
 pub fn check_claim(memory: &[u64], n: usize, edges: &[u16]) -> Result<Ends, Fault>
     ensures { result ≡ result_and (claim_verdict_of memory.now n edges.now) (Ok (ends_of memory.now n edges.now)) }
 {

@@ -25,8 +25,8 @@ use Rattle.guards.specs.Patterns as patterns
 use Rattle.guarded.specs.Rewrite.{body_size, jump_words, store_words, word_moved, label_of, set_of, label_at, block_at}
 use Rattle.guarded.proofs.Cases.{at_jump, at_other, branch_other}
 use Rattle.guarded.proofs.Places.{label_length, block_length, map_next, map_le, map_lt}
-use Rattle.rewrite.specs.Inside.{map_plain, length_plain, body_plain, body_from, block_plain, code_plain, LabelsStand, Mapped, StartsAt, Bare}
-use Rattle.rewrite.proofs.Laying.{Putting, put_more, put_past, end_put}
+use Rattle.rewrite.specs.Inside.{Putting, map_plain, length_plain, body_plain, body_from, block_plain, code_plain, LabelsStand, Mapped, StartsAt, Bare}
+use Rattle.rewrite.proofs.Laying.{put_more, put_past, end_put}
 use Rattle.rewrite.proofs.Moved.{branch_w, branch_moved, target_low, guard_words}
 
 module _ {memory : List ℕ} {n : ℕ} {edges : List ℕ} {total : ℕ} (r : Bare memory n edges total) where

@@ -20,9 +20,9 @@ use Rattle.graph.proofs.Owners.{destined}
 use Rattle.guarded.specs.Blocks.{start_of}
 use Rattle.guarded.specs.Rewrite.{body_size, set_of}
 use Rattle.guarded.proofs.Places.{map_next, map_lt}
-use Rattle.rewrite.specs.Inside.{map_plain, length_plain}
+use Rattle.rewrite.specs.Inside.{Putting, map_plain, length_plain}
 use Rattle.rewrite.proofs.TargetSets.{owner_is}
-use Rattle.rewrite.proofs.Laying.{Putting, put_none, ones_more, ones_put, ones_past}
+use Rattle.rewrite.proofs.Laying.{put_none, ones_more, ones_put, ones_past}
 
 module _ (memory : List ℕ) (n : ℕ) (edges : List ℕ) (total : ℕ) (owners before : List ℕ) where
   -- after a addresses

@@ -14,12 +14,7 @@ use Rattle.guarded.specs.Blocks.{start_of, laid}
 use Rattle.guarded.specs.Rewrite.{new_edge}
 use Rattle.guarded.proofs.Blocks.{laid_length, sets_laid, start_ones, ones_length, ones_at}
 use Rattle.guarded.proofs.Claims.{pair, start_pairs}
-use Rattle.rewrite.specs.Inside.{map_plain, entries_plain, Mapped}
-
--- the first a blocks are put
-pub record Putting (block : ℕ → List ℕ) (before out : List ℕ) (a : ℕ) : Type 0 where
-  pub long : length out ≡ length before
-  pub left : out ≡ sets before 0 (laid block a)
+use Rattle.rewrite.specs.Inside.{map_plain, entries_plain, Mapped, Putting}
 
 pub put_none : (block : ℕ → List ℕ) (before : List ℕ) → Putting block before before 0
 unfolding laid

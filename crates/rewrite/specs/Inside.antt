@@ -8,8 +8,15 @@ use Rattle.rising.specs.Rising.{not_rising}
 use Rattle.graph.specs.Claim.{edge_count, target_of, is_edge, is_destination, id_of}
 use Rattle.graph.specs.Rules.{starts_at_no_jump, lacks_edge}
 use Rattle.graph.specs.Passes.{Sized, Within, Owned}
-use Rattle.guarded.specs.Rewrite.{body_size, map_of, new_length, set_of, body_at, block_at, new_code, new_edges, new_map}
+use Rattle.std.proofs.lemmas.List.Edits.{sets}
+use Rattle.guarded.specs.Blocks.{laid}
+use Rattle.guarded.specs.Rewrite.{body_size, map_of, new_length, set_of, body_at, block_at, new_code, new_edge, new_edges, new_map}
 use Rattle.guarded.specs.Rules.{branches_out}
+
+-- the first a blocks are put over what was there before
+pub record Putting (block : ℕ → List ℕ) (before out : List ℕ) (a : ℕ) : Type 0 where
+  pub long : length out ≡ length before
+  pub left : out ≡ sets before 0 (laid block a)
 
 -- two jumps that share a target have one ID, as rule 10 asks
 abbrev pub OneId : List ℕ → ℕ → Type 0
@@ -36,6 +43,11 @@ module _ (memory : List ℕ) (n : ℕ) (edges : List ℕ) where
 
   abbrev pub entries_plain : List ℕ
   entries_plain = new_map Technique.Plain memory n edges
+
+  -- the new edges were put up to edge k, and now are up to `end`
+  abbrev pub EdgesPut : ℕ → ℕ → List ℕ → List ℕ → Type 0
+  EdgesPut k end new old =
+      (before : List ℕ) → Putting (new_edge Technique.Plain memory edges) before old k → Putting (new_edge Technique.Plain memory edges) before new end
 
   -- where what stands for the word at a begins
   abbrev pub body_from : ℕ → ℕ

@@ -1,25 +1,29 @@
 // The guarded code, block after block. Labels are there already; what stands for a word is put where its block ends.
-ghost use Rattle.std.specs.Prelude.{◌≡◌, ◌<◌, ◌≤◌, true, false, length};
+ghost use Rattle.std.specs.Prelude.{◌≡◌, ◌*◌, ◌<◌, ◌≤◌, true, false, length};
 ghost use Rattle.std.proofs.lemmas.List.Edits.{sets};
 ghost use Rattle.isa.specs.Instructions.{instr_at, is_jump};
-ghost use Rattle.rewrite.specs.Inside.{body_plain, body_from, code_plain, LabelsStand, StartsAt};
+ghost use Rattle.graph.specs.Claim.{edge_count};
+ghost use Rattle.rewrite.specs.Inside.{body_plain, body_from, code_plain, edges_plain, LabelsStand, StartsAt};
 
 use crate::Layout;
 use isa::{Fields, Kind, is_a, is_branch};
 
 // The room in `code`, an address below n and an edge are asked at each call: the place is lent anew, so no struct can hold them.
 impl Layout<'_> {
-    // All blocks, and the illegal word. Edges rise: those that start at a or above begin at edge k.
+    // All blocks with their edges, and the illegal word. Edges rise: those that start at a or above begin at edge k.
     #[tactic(auto, using(checker::proofs::Runs::cut_none, crate::proofs::Laying::put_none))]
-    pub(crate) fn put_code(&self, code: &mut [u64])
-        requires { LabelsStand self.now.bare.memory.now self.now.bare.n self.now.bare.edges.now code.old × (self.now.bare.total ≤ length code.old) }
-        ensures { code.new ≡ sets code.old 0 (code_plain self.now.bare.memory.now self.now.bare.n self.now.bare.edges.now) }
+    pub(crate) fn put_blocks(&self, code: &mut [u64], new_edges: &mut [u16])
+        requires { LabelsStand self.now.bare.memory.now self.now.bare.n self.now.bare.edges.now code.old × (self.now.bare.total ≤ length code.old) × (2 * edge_count self.now.bare.edges.now ≤ length new_edges.old) }
+        ensures code { code.new ≡ sets code.old 0 (code_plain self.now.bare.memory.now self.now.bare.n self.now.bare.edges.now) }
+        ensures edges { new_edges.new ≡ sets new_edges.old 0 (edges_plain self.now.bare.memory.now self.now.bare.n self.now.bare.edges.now) }
     {
         let mut k = 0;
         for a in 0..self.bare.n {
             if is_a(Kind::Jmp, self.bare.memory[a]) {
                 self.put_guard(a, k, code);
-                k = self.bare.run_end(k, a);
+                let end = self.bare.run_end(k, a);
+                self.put_edges(a, k, end, new_edges);
+                k = end;
             } else {
                 self.put_word(a, code);
             }

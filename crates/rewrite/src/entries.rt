@@ -1,8 +1,8 @@
 // What follows the map: where a block ends, and the edges.
 ghost use Rattle.std.specs.Prelude.{◌≡◌, ◌*◌, ◌<◌, ◌≤◌, suc, length};
-ghost use Rattle.std.proofs.lemmas.List.Edits.{sets};
 ghost use Rattle.graph.specs.Claim.{edge_count};
-ghost use Rattle.rewrite.specs.Inside.{map_plain, edges_plain};
+ghost use Rattle.checker.specs.Passes.{Run};
+ghost use Rattle.rewrite.specs.Inside.{map_plain, EdgesPut};
 
 use crate::Layout;
 
@@ -19,17 +19,16 @@ impl Layout<'_> {
         }
     }
 
-    // The edges, in their sequence: from the last word of the jump's block to the first of the target's.
-    #[tactic(auto, using(crate::proofs::Laying::put_none))]
-    pub(crate) fn put_edges(&self, new_edges: &mut [u16])
-        requires { 2 * edge_count self.now.bare.edges.now ≤ length new_edges.old }
-        ensures { new_edges.new ≡ sets new_edges.old 0 (edges_plain self.now.bare.memory.now self.now.bare.n self.now.bare.edges.now) }
+    // The edges from k to `end`, which are those of the jmp at a, in their sequence: from the last word of its block to the first of the
+    // target's.
+    pub(crate) fn put_edges(&self, a: usize, k: usize, end: usize, new_edges: &mut [u16])
+        requires { (a < self.now.bare.n) × Run self.now.bare.edges.now a k end × (2 * edge_count self.now.bare.edges.now ≤ length new_edges.old) }
+        ensures { EdgesPut self.now.bare.memory.now self.now.bare.n self.now.bare.edges.now k end new_edges.new new_edges.old × (length new_edges.new ≡ length new_edges.old) }
     {
-        for k in 0..self.bare.count() {
-            let j = self.bare.jump_of(k);
-            let t = self.bare.target_of(k);
-            new_edges[2 * k] = (self.block_end(j) - 1) as u16;
-            new_edges[2 * k + 1] = self.entries[t];
+        let last = (self.block_end(a) - 1) as u16;
+        for i in k..end {
+            new_edges[2 * i] = last;
+            new_edges[2 * i + 1] = self.entries[self.bare.target_of(i)];
         }
     }
 }

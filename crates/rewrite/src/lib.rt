@@ -50,8 +50,9 @@ pub fn rewrite(
 
 impl BareCode<'_> {
     // The map, the code and the edges, where each has its place. No array is needed besides: until the map is put, its place holds the
-    // owners.
+    // owners. Not inlined: its loops want the registers that the checks before it take.
     #[tactic(auto, using(crate::proofs::Verdicts::short_put))]
+    #[inline(never)]
     fn put(
         &self,
         code: &mut [u64],
@@ -73,8 +74,7 @@ impl BareCode<'_> {
             entries: &*map,
             words: &words,
         };
-        layout.put_code(code);
-        layout.put_edges(new_edges);
+        layout.put_blocks(code, new_edges);
         Ok(Rewritten {
             code: self.total,
             edges,

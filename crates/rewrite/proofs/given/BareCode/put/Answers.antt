@@ -22,6 +22,6 @@ returns c =
     let b = c.args.self.now.passed in
     let long = places_long b _ _ _ c.if-short.false in
     all_put b _ _ _ c.if-short.false
-    (c.put_code.ensures ∙ code_over b c.put_labels.ensures.code long.0)
-    c.put_edges.ensures
+    (c.put_blocks.ensures.code ∙ code_over b c.put_labels.ensures.code long.0)
+    c.put_blocks.ensures.edges
     (c.put_labels.ensures.map ∙ entries_over c.args.self.now.memory.now c.put_owners.ensures long.2)
