@@ -17,7 +17,11 @@
  *   pg_report_parcel, pg_add_report and pg_add_parcel. The last two also count the refused parcel in totals[0].
  * - Calls keep nothing between them and may run at the same time on different places.
  *
- * A state is PG_STATE_WORDS words: r0 to r31, then the pc. Only those of the place are read or written.
+ * A state is PG_STATE_WORDS words, and only those of the place are read or written: state[0] to state[31] are r0 to r31,
+ * state[32] is the pc, state[33] the depth, and state[34] to state[161] are the PG_STACK_PLACES places of the stack of return
+ * addresses, the oldest first. In a fresh state all but the registers are 0. The depth says how many places hold an address
+ * to return to: PG_CALL puts one down, PG_RET goes to the latest. Neither stores nor bus writes reach pc, depth and stack. A
+ * depth above PG_STACK_PLACES is refused with PG_SHAPE by the three calls that get a state.
  * Memory is n words of code and, directly after them, D words of data; memory_len is n + D.
  * Edges are pairs of numbers: a jump's address, then a target. Calls that check or write a program ask that they rise by jump
  * address, then by target, without repeats.
@@ -40,7 +44,8 @@ extern "C" {
 #define PG_PLAIN 0
 #define PG_MEMORY_GUARDS 1
 
-#define PG_STATE_WORDS 33
+#define PG_STATE_WORDS 162
+#define PG_STACK_PLACES 128 /* the most return addresses that a state holds */
 #define PG_MAX_CODE 2048
 #define PG_MAX_DATA 2048
 #define PG_MAX_EDGES 2048
@@ -50,12 +55,12 @@ extern "C" {
 #define PG_MAX_WIDE_PARCEL 49164
 /* figures of a program, and totals over many: how many numbers, and where each stands (the words of a kind stand at its
  * opcode, those of illegal words at PG_FIGURE_ILLEGAL) */
-#define PG_FIGURES 14
-#define PG_FIGURE_ILLEGAL 9
-#define PG_FIGURE_SETS 10
-#define PG_FIGURE_LARGEST 11
-#define PG_FIGURE_EDGES 12
-#define PG_FIGURE_POSSIBLE 13
+#define PG_FIGURES 16
+#define PG_FIGURE_ILLEGAL 11
+#define PG_FIGURE_SETS 12
+#define PG_FIGURE_LARGEST 13
+#define PG_FIGURE_EDGES 14
+#define PG_FIGURE_POSSIBLE 15
 #define PG_TOTALS 6
 #define PG_TOTAL_PARCELS 0
 #define PG_TOTAL_EDGES 1
@@ -67,12 +72,18 @@ extern "C" {
 /* What calls answer. 0 is success. */
 #define PG_OK 0
 
-/* Stops: why a step cannot be made. pg_step and pg_run answer them. */
+/* Stops: why a step cannot be made. pg_step and pg_run answer the first that applies, in the sequence 1, 2, 3, 5, 6, 4.
+ * Stops 1 to 4 answer their numbers. Stops 5 and 6 came later, and 5 and 6 were taken: the same two calls answer
+ * PG_PLACE_TOO_SHORT and PG_SHAPE. So these two stops answer 256 more. PG_STOP_NUMBER of the answer is the number of
+ * docs/REFERENCE.md, for every stop. */
 #define PG_STOP_FETCH 1   /* the pc is outside code (plain) or outside memory (with memory guards) */
 #define PG_STOP_ILLEGAL 2 /* the word at the pc is illegal */
 #define PG_STOP_ACCESS 3  /* a load outside memory, or a store outside data (plain) or outside memory; an address is the exact sum
                            * of the register and w, and one of 2^64 or more is outside */
 #define PG_STOP_NEXT 4    /* plain only: the next pc is outside code; in an accepted program, at a jmp only */
+#define PG_STOP_FULL 261  /* stop 5: a call where the depth is PG_STACK_PLACES: the stack is full */
+#define PG_STOP_EMPTY 262 /* stop 6: a ret where the depth is 0: the stack is empty */
+#define PG_STOP_NUMBER(answer) ((answer) & 255)
 
 /* Refusals: why a call is turned away. 1 to 4 come from the calls that read a parcel (pg_read_parcel, pg_read_wide_parcel,
  * pg_widen, pg_narrow, pg_report_parcel and pg_add_parcel), 7 to 15 from those that check a program (pg_check, pg_check_wide,
@@ -84,7 +95,7 @@ extern "C" {
 #define PG_ITEMS_MISSING 3       /* the bytes for a section's items are not all there */
 #define PG_TRAILING_BYTES 4      /* bytes follow the third section */
 #define PG_PLACE_TOO_SHORT 5     /* a place is too short */
-#define PG_SHAPE 6               /* n, D or the count of edge numbers is outside its limits */
+#define PG_SHAPE 6               /* n, D, the count of edge numbers or the depth of a state is outside its limits */
 #define PG_EDGE_FROM_NO_JUMP 7   /* this edge starts where no jmp of the code is */
 #define PG_TARGET_OUTSIDE_CODE 8 /* this edge's target is outside code */
 #define PG_JUMP_WITHOUT_EDGE 9   /* this jmp has no edge */
@@ -93,13 +104,13 @@ extern "C" {
 #define PG_LABEL_CONDITION 12    /* the label condition fails at this address */
 #define PG_STORE_UNGUARDED 13    /* with memory guards: this st lacks its form or sequence */
 #define PG_JUMP_UNGUARDED 14     /* this jmp lacks its form or sequence */
-#define PG_BRANCH_TARGET 15      /* this bgt or jd leads into a guard or out of code */
+#define PG_BRANCH_TARGET 15      /* this bgt, jd or call leads into a guard or out of code */
 #define PG_NOT_DATA 16           /* a bus write names an address outside data */
 #define PG_NOT_REGISTER 17       /* a bus write names a register outside r3 to r31 */
 #define PG_EDGE_NOT_RISING 18    /* this edge is not above the one before it, by jump address, then by target */
 #define PG_EDGE_TOO_WIDE 19      /* this edge has an address above 65535: the first edition has no room for it */
 #define PG_LABEL_OR_RESERVED 20  /* bare code has a label, or a word that names r0, r1 or r2, at this address */
-#define PG_BRANCH_OUT 21         /* this bgt or jd leads out of the bare code */
+#define PG_BRANCH_OUT 21         /* this bgt, jd or call leads out of the bare code */
 #define PG_RESULT_TOO_LONG 22    /* with its guards the code has more than PG_MAX_CODE words */
 
 /* What else became of a parcel that was to be added to totals. pg_add_report and pg_add_parcel answer them. */
@@ -116,6 +127,8 @@ extern "C" {
 #define PG_JMP 6
 #define PG_LD 7
 #define PG_ST 8
+#define PG_CALL 9 /* puts pc + 1 on the stack and goes to w */
+#define PG_RET 10 /* takes the latest address off the stack and goes there; every field is 0 */
 #define PG_ILLEGAL 255
 
 /* Takes an instruction word apart.
@@ -129,7 +142,8 @@ uint64_t pg_encode(uint8_t opcode, uint8_t a, uint8_t b, uint8_t c, uint32_t w);
 
 /* Makes one step.
  * Answers PG_OK: the state and at most one word of memory are changed. A stop, PG_PLACE_TOO_SHORT where state_len is below
- * PG_STATE_WORDS (tested first), or PG_SHAPE: nothing is changed. */
+ * PG_STATE_WORDS (tested first), or PG_SHAPE where n, D or the depth is outside its limits (tested before every stop): nothing
+ * is changed. A ret takes an address off by the depth alone, and its place keeps it. */
 uint32_t pg_step(uint8_t technique, uint64_t *state, size_t state_len, uint64_t *memory, size_t memory_len, size_t n);
 
 /* Makes steps until one cannot be made or the limit is reached, and puts the count of steps made into count[0].
@@ -143,7 +157,8 @@ uint32_t pg_run(uint8_t technique, uint64_t *state, size_t state_len, uint64_t *
 uint32_t pg_write_data(uint64_t *memory, size_t memory_len, size_t n, uint64_t address, uint64_t word);
 
 /* A bus write to a register: state[reg] becomes word.
- * Answers PG_OK, PG_PLACE_TOO_SHORT where state_len is below PG_STATE_WORDS (tested first), or PG_NOT_REGISTER. */
+ * Answers PG_OK, PG_PLACE_TOO_SHORT where state_len is below PG_STATE_WORDS (tested first), PG_SHAPE where the depth is above
+ * PG_STACK_PLACES, or PG_NOT_REGISTER. */
 uint32_t pg_write_register(uint64_t *state, size_t state_len, uint64_t reg, uint64_t word);
 
 /* Checks a program: its code, its claimed edges and its data size.
@@ -217,9 +232,9 @@ uint32_t pg_narrow(const uint8_t *wide, size_t wide_len, uint8_t *parcel, size_t
  *
  * Each bare address has a block of new words, in the sequence of the addresses. Where it is a destination, the target of an
  * edge, the block begins with a label, which holds the new address of the lowest target of the jumps that lead there. Then a
- * jmp becomes the six words of its guard, ending in jmp r0; a bgt or jd gets the new address of its target; every other word
- * stays as it is, an illegal one too. After the last block comes one illegal word. So the new code has n words, five more for
- * each jmp, one more for each destination, and one: at most PG_MAX_CODE.
+ * jmp becomes the six words of its guard, ending in jmp r0; a bgt, jd or call gets the new address of its target; every other
+ * word stays as it is, a ret and an illegal one too. After the last block comes one illegal word. So the new code has n words,
+ * five more for each jmp, one more for each destination, and one: at most PG_MAX_CODE.
  * map[a] is where the block of a begins: at its label, its word or the first word of its guard. The edges stay in their
  * sequence: one from a to b then starts at the new jmp, the last word of the block of a, and ends at map[b].
  * The data words are only counted. Put them directly after the new code: they have other addresses there. Values are the
@@ -228,8 +243,8 @@ uint32_t pg_narrow(const uint8_t *wide, size_t wide_len, uint8_t *parcel, size_t
  * Answers PG_OK, and puts the count of new code words into counts[0] and that of edge numbers, which is edges_len, into
  * counts[1]; 6, 7, 8, 18, 9 or 10, in this sequence, as pg_check answers them for the bare code; then PG_LABEL_OR_RESERVED,
  * with 2 and the lowest address of a label or of a word that names r0, r1 or r2 in the place; PG_BRANCH_OUT, with 2 and the
- * lowest address of a bgt or jd whose target is n or more; PG_RESULT_TOO_LONG; or PG_PLACE_TOO_SHORT where code (below the
- * new code words), new_edges (below edges_len), map (below n), counts (below 2) or place (below 2) is too short, tested last.
+ * lowest address of a bgt, jd or call whose target is n or more; PG_RESULT_TOO_LONG; or PG_PLACE_TOO_SHORT where code (below
+ * the new code words), new_edges (below edges_len), map (below n), counts (below 2) or place (below 2) is too short, tested last.
  * Where place_len is 2 or more, the place is put for every answer, as by pg_check: 0 and 0 where there is none. */
 uint32_t pg_rewrite(const uint64_t *memory, size_t memory_len, size_t n, const uint16_t *edges, size_t edges_len,
                     uint64_t *code, size_t code_len, uint16_t *new_edges, size_t new_edges_len, uint16_t *map, size_t map_len,
@@ -240,10 +255,10 @@ uint32_t pg_rewrite(const uint64_t *memory, size_t memory_len, size_t n, const u
  * first, nothing is changed); or 6 to 15 or 18, as pg_check answers, and the figures are unchanged. The place is put as by
  * pg_check.
  *
- * figures[0] to figures[9]: the words of each kind, in the sequence label, add, addi, movi, bgt, jd, jmp, ld, st, illegal
- * (so figures[PG_JMP] is the number of jumps); they add up to n. figures[10]: the target sets, equal ones counted once.
- * figures[11]: the size of the largest, 0 without jumps. figures[12] and figures[13]: the freedom of the computed jumps,
- * figures[12] of figures[13]. The first is the edges, as listed, since none repeats; the second is jumps times code words: the
+ * figures[0] to figures[11]: the words of each kind, in the sequence label, add, addi, movi, bgt, jd, jmp, ld, st, call, ret,
+ * illegal (so figures[PG_JMP] is the number of jumps); they add up to n. figures[12]: the target sets, equal ones counted
+ * once. figures[13]: the size of the largest, 0 without jumps. figures[14] and figures[15]: the freedom of the computed jumps,
+ * figures[14] of figures[15]. The first is the edges, as listed, since none repeats; the second is jumps times code words: the
  * edges that there could be if each jump could go to each code word. Without jumps the freedom is left out, and both are 0;
  * with jumps neither is. */
 uint32_t pg_report(uint8_t technique, const uint64_t *memory, size_t memory_len, size_t n, const uint16_t *edges,

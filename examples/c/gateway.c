@@ -90,13 +90,13 @@ int main(int argc, char **argv) {
     print_figures(technique, len, n, 2 * (size_t)counts[1]);
 
     /* ten slices of the program's time, with the bus writing a register and a data word between any two; state is all zeros: a
-     * fresh state has pc 0 */
+     * fresh state has pc 0 and an empty stack */
     for (slice = 0; slice < 10; slice++) {
         uint32_t reg, data;
         answer = pg_run(technique, state, PG_STATE_WORDS, memory, len, n, 3, count, 1);
         steps += count[0];
         if (answer != PG_OK) {
-            printf("stop %u after %llu steps, pc %llu\n", (unsigned)answer, (unsigned long long)steps,
+            printf("stop %u after %llu steps, pc %llu\n", (unsigned)PG_STOP_NUMBER(answer), (unsigned long long)steps,
                    (unsigned long long)state[32]);
             return 0;
         }

@@ -74,7 +74,9 @@ fn print_words(bare: &Program, Guarded { program, map }: &Guarded, movis: &[usiz
             (Instruction::Label { .. }, _) => format!("{from} is a destination"),
             (Instruction::Addi { rd: 0, .. }, Instruction::Jmp { .. }) => format!("the guard of {before}"),
             (Instruction::Movi { .. }, Instruction::Movi { .. }) if movis.contains(&from) => format!("was {before}"),
-            (Instruction::Bgt { .. } | Instruction::Jd { .. }, Instruction::Bgt { .. } | Instruction::Jd { .. })
+            (Instruction::Bgt { .. }, Instruction::Bgt { .. })
+            | (Instruction::Jd { .. }, Instruction::Jd { .. })
+            | (Instruction::Call { .. }, Instruction::Call { .. })
                 if before != text =>
             {
                 format!("was {before}")
@@ -98,6 +100,8 @@ fn text_of(word: u64) -> String {
         Instruction::Jmp { rs } => format!("jmp r{rs}"),
         Instruction::Ld { rd, rs, w } => format!("ld r{rd}, r{rs}({w})"),
         Instruction::St { rd, rs, w } => format!("st r{rd}({w}), r{rs}"),
+        Instruction::Call { w } => format!("call {w}"),
+        Instruction::Ret => "ret".to_string(),
         Instruction::Illegal if word == u64::MAX => "illegal".to_string(),
         Instruction::Illegal => format!("word {word:#018x}"),
     }

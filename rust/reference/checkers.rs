@@ -155,7 +155,7 @@ pub fn check<E: EdgeNumber>(technique: Technique, memory: &[u64], n: usize, edge
         }
     }
     for a in 0..n {
-        if let Op::Bgt(_, _, w) | Op::Jd(w) = ops[a] {
+        if let Op::Bgt(_, _, w) | Op::Jd(w) | Op::Call(w) = ops[a] {
             if w as usize >= n || inside.contains(&(w as usize)) {
                 return at_address(15, a);
             }
@@ -241,7 +241,7 @@ pub fn check_with_sets(technique: Technique, memory: &[u64], n: usize, edges: &[
         }
     }
     for a in 0..n {
-        if let Op::Bgt(_, _, w) | Op::Jd(w) = ops[a] {
+        if let Op::Bgt(_, _, w) | Op::Jd(w) | Op::Call(w) = ops[a] {
             if w as usize >= n || inside.contains(&w) {
                 return at_address(15, a);
             }
@@ -383,7 +383,7 @@ pub fn check_flat<E: EdgeNumber>(technique: Technique, memory: &[u64], n: usize,
         }
     }
     for a in 0..n {
-        if let Op::Bgt(_, _, w) | Op::Jd(w) = ops[a] {
+        if let Op::Bgt(_, _, w) | Op::Jd(w) | Op::Call(w) = ops[a] {
             if inside.get(w as usize) != Some(&false) {
                 return at_address(15, a);
             }

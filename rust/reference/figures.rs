@@ -2,10 +2,14 @@
 use super::{checkers, checkers::Answer, decode, fields, read_parcel, Op, Technique};
 use std::collections::{BTreeSet, HashMap, HashSet};
 
+/// The eleven instructions, and the illegal words, which are counted last.
+pub const KINDS: usize = 12;
+const ILLEGAL: usize = KINDS - 1;
+
 /// Words by kind, illegal ones last; target sets, and the size of the largest; distinct edges, and jumps times code words.
 #[derive(Clone, Copy, PartialEq, Eq, Debug)]
 pub struct Figures {
-    pub words: [u16; 10],
+    pub words: [u16; KINDS],
     pub sets: u16,
     pub largest: u16,
     pub freedom: Option<(u32, u32)>,
@@ -16,12 +20,12 @@ pub type Report = Result<Figures, Answer>;
 
 /// the place of an opcode in the table of instructions; illegal words come after it
 fn row(op: Op) -> usize {
-    usize::from(fields(op).0).min(9)
+    usize::from(fields(op).0).min(ILLEGAL)
 }
 
 /// What the words of document 02 say, with a set for each jump.
 fn figures(memory: &[u64], n: usize, edges: &[u16]) -> Figures {
-    let mut words = [0; 10];
+    let mut words = [0; KINDS];
     for &word in &memory[..n] {
         words[row(decode(word))] += 1;
     }
@@ -53,7 +57,7 @@ pub fn report_parcel(technique: Technique, parcel: &[u8]) -> Report {
 }
 
 /// By opcode, the bits that are 0 in a legal word: fields that the instruction does not name, and the high bits of registers.
-const CLEAR: [u64; 9] = [
+const CLEAR: [u64; ILLEGAL] = [
     0x00ff_ffff_0000_0000,
     0x00e0_e0e0_ffff_ffff,
     0x00e0_e0ff_0000_0000,
@@ -63,6 +67,8 @@ const CLEAR: [u64; 9] = [
     0x00e0_ffff_ffff_ffff,
     0x00e0_e0ff_0000_0000,
     0x00e0_e0ff_0000_0000,
+    0x00ff_ffff_0000_0000,
+    0x00ff_ffff_ffff_ffff,
 ];
 
 /// the row of a word, without decoding it
@@ -70,14 +76,14 @@ const CLEAR: [u64; 9] = [
 fn row_flat(word: u64) -> usize {
     match CLEAR.get((word >> 56) as usize) {
         Some(clear) if word & clear == 0 => (word >> 56) as usize,
-        _ => 9,
+        _ => ILLEGAL,
     }
 }
 
 /// The same with flat arrays of n numbers. An accepted program has a label with the set's ID at each target and nowhere else, so
 /// that labels tell how large a set is, and none of its edges repeats.
 fn figures_flat(memory: &[u64], n: usize, edges: &[u16]) -> Figures {
-    let mut words = [0; 10];
+    let mut words = [0; KINDS];
     let mut size = vec![0u16; n];
     for &word in &memory[..n] {
         let row = row_flat(word);

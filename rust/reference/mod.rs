@@ -20,6 +20,8 @@ pub enum Op {
     Jmp(u8),
     Ld(u8, u8, u32),
     St(u8, u8, u32),
+    Call(u32),
+    Ret,
     Illegal,
 }
 
@@ -47,6 +49,8 @@ pub fn decode(word: u64) -> Op {
         6 if a < 32 && b == 0 && c == 0 && w == 0 => Op::Jmp(a),
         7 if a < 32 && b < 32 && c == 0 => Op::Ld(a, b, w),
         8 if a < 32 && b < 32 && c == 0 => Op::St(a, b, w),
+        9 if a == 0 && b == 0 && c == 0 => Op::Call(w),
+        10 if a == 0 && b == 0 && c == 0 && w == 0 => Op::Ret,
         _ => Op::Illegal,
     }
 }
@@ -63,6 +67,8 @@ pub fn fields(op: Op) -> (u8, u8, u8, u8, u32) {
         Op::Jmp(rs) => (6, rs, 0, 0, 0),
         Op::Ld(rd, rs, w) => (7, rd, rs, 0, w),
         Op::St(rd, rs, w) => (8, rd, rs, 0, w),
+        Op::Call(w) => (9, 0, 0, 0, w),
+        Op::Ret => (10, 0, 0, 0, 0),
         Op::Illegal => (255, 0, 0, 0, 0),
     }
 }
@@ -79,6 +85,8 @@ pub fn instruction(opcode: u8, a: u8, b: u8, c: u8, w: u32) -> Op {
         6 => Op::Jmp(a),
         7 => Op::Ld(a, b, w),
         8 => Op::St(a, b, w),
+        9 => Op::Call(w),
+        10 => Op::Ret,
         _ => Op::Illegal,
     }
 }
@@ -92,18 +100,37 @@ pub fn encode(op: Op) -> u64 {
     u64::from(opcode) << 56 | u64::from(a) << 48 | u64::from(b) << 40 | u64::from(c) << 32 | u64::from(w)
 }
 
+/// how many return addresses a state holds
+pub const PLACES: usize = 128;
+
 #[derive(Clone, Copy, PartialEq, Eq, Debug)]
 pub struct State {
     pub regs: [u64; 32],
     pub pc: u64,
+    pub depth: u64,
+    pub stack: [u64; PLACES],
 }
+
+impl State {
+    pub fn fresh(regs: [u64; 32]) -> State {
+        State { regs, pc: 0, depth: 0, stack: [0; PLACES] }
+    }
+
+    fn shaped(&self) -> bool {
+        self.depth <= PLACES as u64
+    }
+}
+
+/// What a step answers for stops 5 and 6, since 5 and 6 are refusals.
+pub const STOP_FULL: u32 = 256 + 5;
+pub const STOP_EMPTY: u32 = 256 + 6;
 
 pub fn shaped(len: usize, n: usize) -> bool {
     n >= 1 && n <= 2048 && n <= len && len - n <= 2048
 }
 
-/// Whether a step from one pc to another keeps to the claimed graph: at a jmp the listed edges, elsewhere what the word says, cut
-/// to code.
+/// Whether a step from one pc to another keeps to the claimed graph: at a jmp the listed edges, at a ret the words after all calls,
+/// elsewhere what the word says, cut to code.
 pub fn is_successor(code: &[u64], edges: &[u16], from: u64, to: u64) -> bool {
     let inside = |pc: u64| pc < code.len() as u64;
     if !inside(from) || !inside(to) {
@@ -112,13 +139,40 @@ pub fn is_successor(code: &[u64], edges: &[u16], from: u64, to: u64) -> bool {
     match decode(code[from as usize]) {
         Op::Jmp(_) => edges.chunks(2).any(|edge| [u64::from(edge[0]), u64::from(edge[1])] == [from, to]),
         Op::Bgt(_, _, w) => to == from + 1 || to == u64::from(w),
-        Op::Jd(w) => to == u64::from(w),
+        Op::Jd(w) | Op::Call(w) => to == u64::from(w),
+        Op::Ret => to > 0 && matches!(decode(code[to as usize - 1]), Op::Call(_)),
         Op::Illegal => false,
         _ => to == from + 1,
     }
 }
 
-/// 0, or the stop
+/// A call of this address: 0, or what is answered for the stop. Out of line, as ret is, so that other steps keep their registers.
+#[inline(never)]
+fn call(plain: bool, state: &mut State, n: usize, routine: u64) -> u32 {
+    let Some(place) = state.stack.get_mut(state.depth as usize) else { return STOP_FULL };
+    if plain && routine >= n as u64 {
+        return 4;
+    }
+    *place = state.pc + 1;
+    state.depth += 1;
+    state.pc = routine;
+    0
+}
+
+/// A ret, likewise. The place keeps its address.
+#[inline(never)]
+fn ret(plain: bool, state: &mut State, n: usize) -> u32 {
+    let Some(latest) = state.depth.checked_sub(1) else { return STOP_EMPTY };
+    let home = state.stack[latest as usize];
+    if plain && home >= n as u64 {
+        return 4;
+    }
+    state.depth = latest;
+    state.pc = home;
+    0
+}
+
+/// 0, or what is answered for the stop
 #[inline(always)]
 fn advance(technique: Technique, state: &mut State, memory: &mut [u64], n: usize) -> u32 {
     let plain = technique == Technique::Plain;
@@ -157,6 +211,8 @@ fn advance(technique: Technique, state: &mut State, memory: &mut [u64], n: usize
             }
             word = Some((address, state.regs[rs as usize]));
         }
+        Op::Call(w) => return call(plain, state, n, w.into()),
+        Op::Ret => return ret(plain, state, n),
         Op::Illegal => return 2,
     }
     if plain && next >= n as u64 {
@@ -172,19 +228,19 @@ fn advance(technique: Technique, state: &mut State, memory: &mut [u64], n: usize
     0
 }
 
-/// 0, the stop, or 6
+/// 0, what is answered for the stop, or 6
 #[inline(never)]
 pub fn step(technique: Technique, state: &mut State, memory: &mut [u64], n: usize) -> u32 {
-    if !shaped(memory.len(), n) {
+    if !shaped(memory.len(), n) || !state.shaped() {
         return 6;
     }
     advance(technique, state, memory, n)
 }
 
-/// 0 where it is spent, the stop, or 6; and the count
+/// 0 where it is spent, what is answered for the stop, or 6; and the count
 #[inline(never)]
 pub fn run(technique: Technique, state: &mut State, memory: &mut [u64], n: usize, limit: u16) -> (u32, u16) {
-    if !shaped(memory.len(), n) {
+    if !shaped(memory.len(), n) || !state.shaped() {
         return (6, 0);
     }
     for count in 0..limit {
@@ -210,6 +266,9 @@ pub fn write_data(memory: &mut [u64], n: usize, address: u64, word: u64) -> u32 
 
 #[inline(never)]
 pub fn write_register(state: &mut State, register: u64, word: u64) -> u32 {
+    if !state.shaped() {
+        return 6;
+    }
     if !(3..=31).contains(&register) {
         return 17;
     }

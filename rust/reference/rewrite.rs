@@ -13,7 +13,7 @@ pub struct Rewritten {
 /// the registers that an instruction names
 fn named(op: Op) -> Vec<u8> {
     match op {
-        Op::Label(_) | Op::Jd(_) | Op::Illegal => vec![],
+        Op::Label(_) | Op::Jd(_) | Op::Call(_) | Op::Ret | Op::Illegal => vec![],
         Op::Movi(a, _) | Op::Jmp(a) => vec![a],
         Op::Addi(a, b, _) | Op::Bgt(a, b, _) | Op::Ld(a, b, _) | Op::St(a, b, _) => vec![a, b],
         Op::Add(a, b, c) => vec![a, b, c],
@@ -33,7 +33,7 @@ pub fn rewrite(memory: &[u64], n: usize, edges: &[u16]) -> Result<Rewritten, Ans
     if let Some(a) = (0..n).find(|&a| reserved(ops[a])) {
         return Err((20, 2, a as u64));
     }
-    let leads_out = |op: Op| matches!(op, Op::Bgt(_, _, w) | Op::Jd(w) if w as usize >= n);
+    let leads_out = |op: Op| matches!(op, Op::Bgt(_, _, w) | Op::Jd(w) | Op::Call(w) if w as usize >= n);
     if let Some(a) = (0..n).find(|&a| leads_out(ops[a])) {
         return Err((21, 2, a as u64));
     }
@@ -80,6 +80,7 @@ pub fn rewrite(memory: &[u64], n: usize, edges: &[u16]) -> Result<Rewritten, Ans
             ),
             Op::Bgt(rs, rt, w) => code.push(encode(Op::Bgt(rs, rt, new(w as usize)))),
             Op::Jd(w) => code.push(encode(Op::Jd(new(w as usize)))),
+            Op::Call(w) => code.push(encode(Op::Call(new(w as usize)))),
             _ => code.push(memory[a]),
         }
     }
@@ -91,9 +92,9 @@ pub fn rewrite(memory: &[u64], n: usize, edges: &[u16]) -> Result<Rewritten, Ans
     Ok(Rewritten { code, edges, map })
 }
 
-/// By opcode, and 9 for illegal words: the bits that are 0 in a legal word (fields that the instruction does not name, and the high
+/// By opcode, and 11 for illegal words: the bits that are 0 in a legal word (fields that the instruction does not name, and the high
 /// bits of registers), and fields a, b and c with 31 where none is named.
-const FORMS: [(u64, u32); 10] = [
+const FORMS: [(u64, u32); 12] = [
     (0x00ff_ffff_0000_0000, 0),
     (0x00e0_e0e0_ffff_ffff, 0),
     (0x00e0_e0ff_0000_0000, 0x00_001f),
@@ -103,15 +104,18 @@ const FORMS: [(u64, u32); 10] = [
     (0x00e0_ffff_ffff_ffff, 0x00_1f1f),
     (0x00e0_e0ff_0000_0000, 0x00_001f),
     (0x00e0_e0ff_0000_0000, 0x00_001f),
+    (0x00ff_ffff_0000_0000, 0x1f_1f1f),
+    (0x00ff_ffff_ffff_ffff, 0x1f_1f1f),
     (0, 0x1f_1f1f),
 ];
 
 const BGT: usize = 4;
 const JD: usize = 5;
 const JMP: usize = 6;
-const ILLEGAL: usize = 9;
+const CALL: usize = 9;
+const ILLEGAL: usize = 11;
 
-/// the opcode of a word, 9 where it is illegal
+/// the opcode of a word, 11 where it is illegal
 #[inline(always)]
 fn opcode(word: u64) -> usize {
     let opcode = ((word >> 56) as usize).min(ILLEGAL);
@@ -129,7 +133,8 @@ fn is_jump(word: u64) -> bool {
 
 #[inline(always)]
 fn is_branch(word: u64) -> bool {
-    word & 0xffe0_e0ff_0000_0000 == 0x0400_0000_0000_0000 || word & 0xffff_ffff_0000_0000 == 0x0500_0000_0000_0000
+    let head = word & 0xffff_ffff_0000_0000;
+    word & 0xffe0_e0ff_0000_0000 == 0x0400_0000_0000_0000 || head == 0x0500_0000_0000_0000 || head == 0x0900_0000_0000_0000
 }
 
 /// a label, whose fields are 0, or a word that names r0, r1 or r2: a field that is below 3 has no bit 5 when 29 is added
@@ -141,7 +146,7 @@ fn is_reserved(opcode: usize, word: u64) -> bool {
 
 #[inline(always)]
 fn is_out(opcode: usize, word: u64, n: usize) -> bool {
-    (opcode == BGT || opcode == JD) && word as u32 as usize >= n
+    (opcode == BGT || opcode == JD || opcode == CALL) && word as u32 as usize >= n
 }
 
 const NONE: u16 = u16::MAX;

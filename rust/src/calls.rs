@@ -522,10 +522,15 @@ pub use slices::{
     widen, write_data, write_parcel, write_parcel_placed, write_wide_parcel,
 };
 
-/// A state as 33 words. `State` is `repr(C)`: 32 registers and then the pc, with nothing between.
+/// 32 registers, the pc, the depth, and 128 places of the stack.
+const STATE_WORDS: usize = 32 + 1 + 1 + 128;
+
+const _: () = assert!(std::mem::size_of::<State>() == STATE_WORDS * 8);
+
+/// A state as its words. `State` is `repr(C)`: they stand in this sequence, with nothing between.
 #[inline]
 fn words(state: &mut State) -> &mut [u64] {
-    unsafe { std::slice::from_raw_parts_mut(state as *mut State as *mut u64, 33) }
+    unsafe { std::slice::from_raw_parts_mut(state as *mut State as *mut u64, STATE_WORDS) }
 }
 
 #[inline]

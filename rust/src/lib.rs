@@ -30,6 +30,8 @@
 //! assert_eq!(Program::from_parcel(&parcel), Ok(program));
 //! ```
 //!
+//! A routine that several places share is called, and returns to each of them whatever the bus writes: [`State`] shows how.
+//!
 //! A site owner's question: how tightly is a program held? [`report`] and [`report_parcel`] give its [`Figures`], and [`Totals`]
 //! add up the freedoms of many parcels.
 //!
@@ -89,6 +91,8 @@ pub enum Instruction {
     Jmp { rs: u8 },
     Ld { rd: u8, rs: u8, w: u32 },
     St { rd: u8, rs: u8, w: u32 },
+    Call { w: u32 },
+    Ret,
     Illegal,
 }
 
@@ -115,6 +119,8 @@ pub fn decode(word: u64) -> Instruction {
         6 => Instruction::Jmp { rs: a },
         7 => Instruction::Ld { rd: a, rs: b, w },
         8 => Instruction::St { rd: a, rs: b, w },
+        9 => Instruction::Call { w },
+        10 => Instruction::Ret,
         _ => Instruction::Illegal,
     }
 }
@@ -138,6 +144,8 @@ pub fn encode(instruction: Instruction) -> u64 {
         Instruction::Jmp { rs } => (6, rs, 0, 0, 0),
         Instruction::Ld { rd, rs, w } => (7, rd, rs, 0, w),
         Instruction::St { rd, rs, w } => (8, rd, rs, 0, w),
+        Instruction::Call { w } => (9, 0, 0, 0, w),
+        Instruction::Ret => (10, 0, 0, 0, 0),
         Instruction::Illegal => (255, 0, 0, 0, 0),
     };
     calls::encode(opcode, a, b, c, w)
@@ -218,7 +226,7 @@ impl fmt::Display for Refusal {
             Refusal::ItemsMissing => "the bytes for a section's items are not all there",
             Refusal::TrailingBytes => "bytes follow the third section",
             Refusal::PlaceTooShort => "a place is too short",
-            Refusal::Shape => "n, the data size or the count of edges is outside its limits",
+            Refusal::Shape => "n, the data size, the count of edges or a state's depth is outside its limits",
             Refusal::EdgeFromNoJump => "an edge starts where no jmp of the code is",
             Refusal::TargetOutsideCode => "an edge's target is outside code",
             Refusal::JumpWithoutEdge => "a jmp has no edge",
@@ -227,13 +235,13 @@ impl fmt::Display for Refusal {
             Refusal::LabelCondition => "the label condition fails",
             Refusal::StoreUnguarded => "a st lacks its form or sequence",
             Refusal::JumpUnguarded => "a jmp lacks its form or sequence",
-            Refusal::BranchTarget => "a bgt or jd leads into a guard or out of code",
+            Refusal::BranchTarget => "a bgt, jd or call leads into a guard or out of code",
             Refusal::NotData => "a bus write names an address outside data",
             Refusal::NotRegister => "a bus write names a register outside r3 to r31",
             Refusal::EdgeNotRising => "an edge is not above the one before it",
             Refusal::EdgeTooWide => "an edge's address is above 65,535",
             Refusal::LabelOrReserved => "bare code has a label, or a word that names r0, r1 or r2",
-            Refusal::BranchOut => "a bgt or jd leads out of the bare code",
+            Refusal::BranchOut => "a bgt, jd or call leads out of the bare code",
             Refusal::ResultTooLong => "with its guards the code has more than 2,048 words",
         };
         write!(f, "{} ({})", words, self.number())
@@ -242,7 +250,7 @@ impl fmt::Display for Refusal {
 
 impl std::error::Error for Refusal {}
 
-/// Why a step cannot be made, by the number of docs/REFERENCE.md.
+/// Why a step cannot be made, by the number of docs/REFERENCE.md. The first that applies is told, in the sequence 1, 2, 3, 5, 6, 4.
 #[derive(Clone, Copy, PartialEq, Eq, Hash, Debug)]
 pub enum Stop {
     /// The pc is outside code, or, with memory guards, outside memory.
@@ -254,40 +262,112 @@ pub enum Stop {
     Access = 3,
     /// Plain only: the next pc is outside code. An accepted program meets it at a jmp only.
     Next = 4,
+    /// A call where 128 return addresses are on the stack.
+    Full = 5,
+    /// A ret where the stack is empty.
+    Empty = 6,
 }
 
 impl Stop {
-    /// The number of docs/REFERENCE.md, 1 to 4.
+    /// The number of docs/REFERENCE.md, 1 to 6.
     #[inline]
     pub fn number(self) -> u32 {
         self as u32
     }
 
+    /// The stop of a number that the library answers. It answers 256 more for the last two, since 5 and 6 are refusals.
     #[inline]
-    fn of(number: u32) -> Option<Stop> {
-        match number {
+    fn of(answer: u32) -> Option<Stop> {
+        match answer {
             1 => Some(Stop::Fetch),
             2 => Some(Stop::Illegal),
             3 => Some(Stop::Access),
             4 => Some(Stop::Next),
+            261 => Some(Stop::Full),
+            262 => Some(Stop::Empty),
             _ => None,
         }
     }
 }
 
-/// The machine's state: 32 registers and the pc.
+/// The machine's state: 32 registers, the pc, and the stack of return addresses.
+///
+/// A call puts the address after it into the place `stack[depth]`, and the depth goes up by one. A ret goes to the latest address
+/// put down, and the depth goes down by one; the place keeps what it holds. Neither stores nor bus writes reach pc, depth and
+/// stack. A state with a depth above 128 is refused with [`Refusal::Shape`].
+///
+/// A routine that two callers share comes home to each of them:
+///
+/// ```
+/// use post_guard::{check, encode, step, Instruction::*, State, Step, Technique, Verdict};
+///
+/// let code = [
+///     Call { w: 4 },
+///     Movi { rd: 6, w: 1 },
+///     Call { w: 4 },
+///     Illegal,
+///     Addi { rd: 5, rs: 5, w: 10 }, // 4: the routine
+///     Ret,
+///     Illegal,
+/// ];
+/// let mut memory = code.map(encode);
+/// assert_eq!(check(Technique::Plain, &memory, 7, &[]), Verdict::Accepted);
+///
+/// let mut state = State::fresh([0; 32]);
+/// for (pc, pending) in [(4, &[1][..]), (5, &[1]), (1, &[]), (2, &[]), (4, &[3]), (5, &[3]), (3, &[])] {
+///     assert_eq!(step(Technique::Plain, &mut state, &mut memory, 7), Ok(Step::Made));
+///     assert_eq!((state.pc, state.pending()), (pc, pending));
+///     // no bus write reaches the stack
+///     assert!(state.write_register(34, 2).is_err());
+/// }
+/// assert_eq!(state.registers[5], 20);
+/// assert_eq!((state.depth, state.stack[0]), (0, 3)); // the place keeps what the second call put there
+/// ```
+///
+/// A call that finds no room and a ret that finds no address are stops:
+///
+/// ```
+/// use post_guard::{encode, run, Ending, Instruction::*, Ran, Refusal, State, Stop, Technique};
+///
+/// // a routine that calls itself: the 129th call finds no room
+/// let mut memory = [Call { w: 0 }, Illegal].map(encode);
+/// let mut state = State::fresh([0; 32]);
+/// let ran = run(Technique::Plain, &mut state, &mut memory, 2, 1000).unwrap();
+/// assert_eq!(ran, Ran { ending: Ending::Stopped(Stop::Full), count: 128 });
+/// assert_eq!((state.pc, state.pending()), (0, &[1; 128][..]));
+///
+/// // 128 returns take them off again, and the next finds none
+/// memory = [Ret, Jd { w: 0 }].map(encode);
+/// let ran = run(Technique::Plain, &mut state, &mut memory, 2, 1000).unwrap();
+/// assert_eq!((ran.ending, state.pc, state.depth), (Ending::Stopped(Stop::Empty), 0, 0));
+/// assert_eq!(Stop::Empty.number(), 6);
+///
+/// state.depth = 129; // no such state
+/// assert_eq!(run(Technique::Plain, &mut state, &mut memory, 2, 0), Err(Refusal::Shape));
+/// ```
 #[repr(C)]
 #[derive(Clone, Copy, PartialEq, Eq, Hash, Debug)]
 pub struct State {
     pub registers: [u64; 32],
     pub pc: u64,
+    /// How many return addresses are on the stack, 0 to 128.
+    pub depth: u64,
+    /// The places of the stack: the first `depth` of them hold the return addresses, the oldest first.
+    pub stack: [u64; 128],
 }
 
 impl State {
-    /// A fresh state: pc 0, and the registers as they are given.
+    /// A fresh state: pc 0, the stack empty and its places 0, and the registers as they are given.
     #[inline]
     pub fn fresh(registers: [u64; 32]) -> State {
-        State { registers, pc: 0 }
+        State { registers, pc: 0, depth: 0, stack: [0; 128] }
+    }
+
+    /// The return addresses that no ret has taken yet, the oldest first: all 128 places where the depth is above that.
+    #[inline]
+    pub fn pending(&self) -> &[u64] {
+        let depth = self.depth.min(self.stack.len() as u64);
+        &self.stack[..depth as usize]
     }
 
     /// A bus write to a register. A refusal changes nothing.
@@ -610,12 +690,14 @@ pub enum Kind {
     Jmp,
     Ld,
     St,
+    Call,
+    Ret,
     Illegal,
 }
 
 impl Kind {
     /// Every kind, in the sequence in which figures count them.
-    pub const ALL: [Kind; 10] = [
+    pub const ALL: [Kind; 12] = [
         Kind::Label,
         Kind::Add,
         Kind::Addi,
@@ -625,6 +707,8 @@ impl Kind {
         Kind::Jmp,
         Kind::Ld,
         Kind::St,
+        Kind::Call,
+        Kind::Ret,
         Kind::Illegal,
     ];
 }
@@ -642,6 +726,8 @@ impl fmt::Display for Kind {
             Kind::Jmp => "jmp",
             Kind::Ld => "ld",
             Kind::St => "st",
+            Kind::Call => "call",
+            Kind::Ret => "ret",
             Kind::Illegal => "illegal",
         })
     }
@@ -670,7 +756,7 @@ impl fmt::Display for Freedom {
 #[derive(Clone, Copy, PartialEq, Eq, Hash, Debug)]
 pub struct Figures {
     /// How many words of each kind there are, in the sequence of [`Kind::ALL`]. They add up to n.
-    pub words: [u16; 10],
+    pub words: [u16; 12],
     /// The target sets, equal ones counted once.
     pub sets: u16,
     /// How many targets the largest set has; 0 without jumps.
@@ -688,7 +774,7 @@ impl Figures {
 
     /// The figures in the numbers that the library puts.
     #[inline]
-    fn of(numbers: &[u64; 14]) -> Figures {
+    fn of(numbers: &[u64; 16]) -> Figures {
         let [words @ .., sets, largest, edges, possible] = numbers.map(|number| number as u32);
         Figures {
             words: words.map(|count| count as u16),
@@ -718,7 +804,7 @@ impl Figures {
 ///     Illegal,
 /// ];
 /// let figures = report(Technique::Plain, &code.map(encode), 9, &[6, 7]).unwrap();
-/// assert_eq!(figures.words, [1, 0, 1, 2, 2, 0, 1, 1, 0, 1]);
+/// assert_eq!(figures.words, [1, 0, 1, 2, 2, 0, 1, 1, 0, 0, 0, 1]);
 /// assert_eq!(figures.words_of(Kind::Movi), 2);
 /// assert_eq!((figures.sets, figures.largest), (1, 1));
 /// assert_eq!(figures.freedom, Some(Freedom { edges: 1, possible: 9 }));
@@ -733,7 +819,7 @@ impl Figures {
 /// ```
 #[inline]
 pub fn report(technique: Technique, memory: &[u64], n: usize, edges: &[u16]) -> Result<Figures, Fault> {
-    let (mut figures, mut place) = ([0u64; 14], [0u64; 2]);
+    let (mut figures, mut place) = ([0u64; 16], [0u64; 2]);
     match calls::report(technique.number(), memory, n, edges, &mut figures, &mut place) {
         0 => Ok(Figures::of(&figures)),
         number => Err(Fault::of(number, place)),
@@ -746,13 +832,13 @@ pub fn report(technique: Technique, memory: &[u64], n: usize, edges: &[u16]) -> 
 /// use post_guard::{report_parcel, Refusal, Technique};
 /// // one illegal code word, no edges, no data
 /// let mut parcel = [1u32.to_le_bytes(), [255; 4], [255; 4], [0; 4], [0; 4]].concat();
-/// assert_eq!(report_parcel(Technique::Plain, &parcel).unwrap().words, [0, 0, 0, 0, 0, 0, 0, 0, 0, 1]);
+/// assert_eq!(report_parcel(Technique::Plain, &parcel).unwrap().words, [0, 0, 0, 0, 0, 0, 0, 0, 0, 0, 0, 1]);
 /// parcel.push(0);
 /// assert_eq!(report_parcel(Technique::Plain, &parcel).unwrap_err().refusal, Refusal::TrailingBytes);
 /// ```
 #[inline]
 pub fn report_parcel(technique: Technique, parcel: &[u8]) -> Result<Figures, Fault> {
-    let (mut figures, mut place) = ([0u64; 14], [0u64; 2]);
+    let (mut figures, mut place) = ([0u64; 16], [0u64; 2]);
     match calls::report_parcel(technique.number(), parcel, &mut figures, &mut place) {
         0 => Ok(Figures::of(&figures)),
         number => Err(Fault::of(number, place)),

@@ -8,10 +8,11 @@ pub const MAX_CODE: usize = 2048;
 /// Puts labels and plain guards into bare code: n words without labels that leave r0, r1 and r2 alone, with the edges of its jumps
 /// between bare addresses, as [`check`](crate::check) takes them. Gives n', the number of new code words.
 ///
-/// A destination gets its label in front, a jmp becomes its guard, a bgt or jd gets its target mapped, every other word stays as it
-/// is, and one illegal word is added at the end: n' is n, five more for each jmp, one more for each destination, and one. As many
-/// new edge numbers are put as there are old ones, in the same sequence, and n entries of the map: for each old address, where its
-/// label, its word or the first word of its guard is now. The new code is accepted, plain, with the same data words after it.
+/// A destination gets its label in front, a jmp becomes its guard, a bgt, jd or call gets its target mapped, every other word stays
+/// as it is, and one illegal word is added at the end: n' is n, five more for each jmp, one more for each destination, and one. As
+/// many new edge numbers are put as there are old ones, in the same sequence, and n entries of the map: for each old address, where
+/// its label, its word or the first word of its guard is now. The new code is accepted, plain, with the same data words after it.
+/// What follows a call follows it still, so where a ret went to a + 1 it goes to the entry of a + 1.
 ///
 /// Values in registers and data are the caller's to map, and so is what a movi holds: [`Guarded`] shows how. Nothing past what is
 /// put is touched, and a refusal changes nothing.
@@ -199,7 +200,7 @@ impl Program {
     /// bare.edges.truncate(2);
     /// let fault = bare.with_guards().unwrap_err();
     /// assert_eq!(fault.to_string(), "refused 21 at 1");
-    /// assert_eq!(fault.refusal.to_string(), "a bgt or jd leads out of the bare code (21)");
+    /// assert_eq!(fault.refusal.to_string(), "a bgt, jd or call leads out of the bare code (21)");
     /// ```
     pub fn with_guards(&self) -> Result<Guarded, Fault> {
         // places as long as the result, or as the longest that there may be

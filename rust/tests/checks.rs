@@ -51,11 +51,13 @@ fn many(technique: Technique, seed: u64) {
 fn garbage(r: &mut Random, n: usize, d: usize) -> Program {
     let word = |r: &mut Random, n: usize| {
         use reference::Op;
-        reference::encode(match r.below(6) {
+        reference::encode(match r.below(8) {
             0 | 1 => Op::Jmp(0),
             2 => Op::Label(r.below(n) as u32),
             3 => Op::Jd(r.below(n + 1) as u32),
             4 => Op::St(0, 1, 0),
+            5 => Op::Call(r.below(n + 1) as u32),
+            6 => Op::Ret,
             _ => Op::Illegal,
         })
     };
@@ -115,7 +117,7 @@ fn branch_targets_at_the_ends() {
                 let near = [0, n - 2, n - 1, n, n + 1, n + d - 1, n + d];
                 let far = [2047, 2048, 2049, 65_535, 65_536, 1 << 31, u32::MAX as usize - 1, u32::MAX as usize];
                 for w in near.into_iter().chain(far) {
-                    for branch in [Op::Jd(w as u32), Op::Bgt(3, 4, w as u32)] {
+                    for branch in [Op::Jd(w as u32), Op::Call(w as u32), Op::Bgt(3, 4, w as u32)] {
                         let mut memory = vec![encode(Op::Movi(5, 0)); n + d];
                         memory[n - 2] = encode(branch);
                         memory[n - 1] = encode(Op::Illegal);

@@ -11,13 +11,13 @@ use reference::figures::{self, Figures, Report};
 use reference::{encode, Op, Technique, TECHNIQUES};
 use std::collections::HashSet;
 
-fn numbers(figures: Figures) -> [u64; 14] {
+fn numbers(figures: Figures) -> [u64; 16] {
     let (edges, possible) = figures.freedom.unwrap_or((0, 0));
-    let mut numbers = [0; 14];
+    let mut numbers = [0; 16];
     for (number, count) in numbers.iter_mut().zip(figures.words) {
         *number = count.into();
     }
-    numbers[10..].copy_from_slice(&[figures.sets.into(), figures.largest.into(), edges.into(), possible.into()]);
+    numbers[12..].copy_from_slice(&[figures.sets.into(), figures.largest.into(), edges.into(), possible.into()]);
     numbers
 }
 
@@ -39,13 +39,13 @@ impl Lent {
     /// what is there after this report
     fn after(&self, report: &Report) -> (u32, Lent) {
         let mut after = self.clone();
-        if self.figures_len < 14 || self.place_len < 2 {
+        if self.figures_len < 16 || self.place_len < 2 {
             return (5, after);
         }
         let (answer, kind, at) = report.err().unwrap_or((0, 0, 0));
         after.place[..2].copy_from_slice(&[kind, at]);
         if let Ok(figures) = *report {
-            after.figures[..14].copy_from_slice(&numbers(figures));
+            after.figures[..16].copy_from_slice(&numbers(figures));
         }
         (answer, after)
     }
@@ -60,7 +60,7 @@ impl Lent {
 }
 
 fn some_lengths(r: &mut Random) -> (usize, usize) {
-    (14 + r.below(3), 2 + r.below(3))
+    (16 + r.below(3), 2 + r.below(3))
 }
 
 fn compare(r: &mut Random, technique: Technique, number: u8, p: &Program) -> Report {
@@ -295,7 +295,7 @@ fn places_too_short() {
         let report = compare(&mut r, technique, number_of(technique), &p);
         let parcel_report = figures::report_parcel(technique, &parcel);
         accepted_ones += usize::from(report.is_ok());
-        for figures_len in 0..16 {
+        for figures_len in 0..18 {
             for place_len in 0..4 {
                 let told = || format!("{figures_len} and {place_len} numbers");
                 Lent::new(&mut r, figures_len, place_len).hold(&report, told, |figures, place| {
@@ -373,7 +373,7 @@ fn by_hand(p: &Program, expected: Figures) {
 
 #[test]
 fn figures_worked_out_by_hand() {
-    by_hand(&post(), Figures { words: [1, 0, 1, 2, 2, 0, 1, 1, 0, 1], sets: 1, largest: 1, freedom: Some((1, 9)) });
+    by_hand(&post(), Figures { words: [1, 0, 1, 2, 2, 0, 1, 1, 0, 0, 0, 1], sets: 1, largest: 1, freedom: Some((1, 9)) });
 
     // the edge listed three times: refused, at the second
     let mut p = post();
@@ -382,7 +382,7 @@ fn figures_worked_out_by_hand() {
 
     // no jump: nothing but an illegal word, and one word of each other kind
     let p = program(&[Op::Illegal], &[]);
-    by_hand(&p, Figures { words: [0, 0, 0, 0, 0, 0, 0, 0, 0, 1], sets: 0, largest: 0, freedom: None });
+    by_hand(&p, Figures { words: [0, 0, 0, 0, 0, 0, 0, 0, 0, 0, 0, 1], sets: 0, largest: 0, freedom: None });
     let others = [
         Op::Add(3, 4, 5),
         Op::Addi(3, 4, 5),
@@ -391,12 +391,15 @@ fn figures_worked_out_by_hand() {
         Op::Jd(6),
         Op::Ld(3, 4, 5),
         Op::St(3, 4, 5),
+        Op::Call(7),
+        Op::Ret,
+        Op::Call(0),
         Op::Illegal,
         Op::Illegal,
     ];
     by_hand(
         &program(&others, &[]),
-        Figures { words: [0, 1, 1, 1, 1, 1, 0, 1, 1, 2], sets: 0, largest: 0, freedom: None },
+        Figures { words: [0, 1, 1, 1, 1, 1, 0, 1, 1, 2, 1, 2], sets: 0, largest: 0, freedom: None },
     );
 }
 
@@ -408,7 +411,7 @@ fn largest_figures_worked_out_by_hand() {
     let edges: Vec<_> = (6..2047).map(|target| (5, target)).collect();
     by_hand(
         &program(&code, &edges),
-        Figures { words: [2041, 0, 1, 1, 2, 0, 1, 1, 0, 1], sets: 1, largest: 2041, freedom: Some((2041, 2048)) },
+        Figures { words: [2041, 0, 1, 1, 2, 0, 1, 1, 0, 0, 0, 1], sets: 1, largest: 2041, freedom: Some((2041, 2048)) },
     );
 
     // 341 jumps to one label: 2,046 words, the label, an illegal word
@@ -417,7 +420,7 @@ fn largest_figures_worked_out_by_hand() {
     by_hand(
         &program(&code, &edges),
         Figures {
-            words: [1, 0, 341, 341, 682, 0, 341, 341, 0, 1],
+            words: [1, 0, 341, 341, 682, 0, 341, 341, 0, 0, 0, 1],
             sets: 1,
             largest: 1,
             freedom: Some((341, 341 * 2048)),
@@ -435,7 +438,7 @@ fn largest_figures_worked_out_by_hand() {
     by_hand(
         &program(&code, &edges),
         Figures {
-            words: [292, 0, 292, 292, 584, 3, 292, 292, 0, 1],
+            words: [292, 0, 292, 292, 584, 3, 292, 292, 0, 0, 0, 1],
             sets: 292,
             largest: 1,
             freedom: Some((292, 292 * 2048)),
@@ -451,7 +454,7 @@ fn largest_figures_worked_out_by_hand() {
     by_hand(
         &program(&code, &edges),
         Figures {
-            words: [64, 1791, 32, 32, 64, 0, 32, 32, 0, 1],
+            words: [64, 1791, 32, 32, 64, 0, 32, 32, 0, 0, 0, 1],
             sets: 1,
             largest: 64,
             freedom: Some((2048, 32 * 2048)),
@@ -464,15 +467,17 @@ fn largest_figures_worked_out_by_hand() {
 fn examples_have_the_figures_worked_out_by_hand() {
     use post_guard::Technique::{MemoryGuards, Plain};
     let expected = [
-        ("post", Plain, [1, 0, 1, 2, 2, 0, 1, 1, 0, 1], 1, 1, (1, 9)),
-        ("clipping", Plain, [1, 1, 1, 5, 3, 1, 1, 2, 1, 1], 1, 1, (1, 17)),
-        ("day-and-night", Plain, [3, 0, 4, 8, 5, 0, 2, 3, 1, 1], 2, 2, (3, 54)),
-        ("memory-guards", MemoryGuards, [1, 0, 2, 5, 6, 0, 1, 1, 1, 1], 1, 1, (1, 18)),
+        ("post", Plain, [1, 0, 1, 2, 2, 0, 1, 1, 0, 0, 0, 1], 1, 1, Some((1, 9))),
+        ("clipping", Plain, [1, 1, 1, 5, 3, 1, 1, 2, 1, 0, 0, 1], 1, 1, Some((1, 17))),
+        ("day-and-night", Plain, [3, 0, 4, 8, 5, 0, 2, 3, 1, 0, 0, 1], 2, 2, Some((3, 54))),
+        ("memory-guards", MemoryGuards, [1, 0, 2, 5, 6, 0, 1, 1, 1, 0, 0, 1], 1, 1, Some((1, 18))),
+        ("shared-return-by-jump", Plain, [2, 3, 1, 6, 3, 4, 1, 3, 1, 0, 0, 1], 1, 2, Some((2, 25))),
+        ("shared-routine", Plain, [0, 3, 0, 3, 1, 1, 0, 2, 1, 2, 2, 1], 0, 0, None),
     ];
-    for (name, technique, words, sets, largest, (edges, possible)) in expected {
+    for (name, technique, words, sets, largest, freedom) in expected {
         let path = format!("{}/../examples/{name}.parcel", env!("CARGO_MANIFEST_DIR"));
         let parcel = std::fs::read(&path).unwrap_or_else(|error| panic!("{path}: {error}"));
-        let freedom = Some(Freedom { edges, possible });
+        let freedom = freedom.map(|(edges, possible)| Freedom { edges, possible });
         let expected = post_guard::Figures { words, sets, largest, freedom };
         assert_eq!(post_guard::report_parcel(technique, &parcel), Ok(expected), "{name}");
         assert_eq!(post_guard::Program::from_parcel(&parcel).unwrap().report(technique), Ok(expected), "{name}");

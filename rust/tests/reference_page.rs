@@ -1,8 +1,8 @@
 //! docs/REFERENCE.md against what it tells of: the programs and bytes shown are the examples and are accepted as the page says, or
 //! get guards if they are bare, the tables of numbers have every number under the header's name, every call of the header has its
-//! row, the longest parcels are those of the header and of the crate, what the examples of figures and of guards print is what they
-//! print, and the definitions that the page names are there. Every example, of either edition, gets the verdicts that were worked
-//! out by hand.
+//! row, the longest parcels and the words of a state are those of the header and of the crate, what the examples of figures and of
+//! guards print is what they print, and the definitions that the page names are there. Every example, of either edition, gets the
+//! verdicts that were worked out by hand.
 use post_guard::{
     encode, narrowed, run, widened, Ending, Fault, Instruction::*, Place, Program, Refusal, Refusal::*, State, Stop, Technique,
     Verdict, WideProgram,
@@ -141,6 +141,10 @@ fn examples_get_the_verdicts_worked_out_by_hand() {
         ("register-32", edge(EdgeFromNoJump, 0), edge(EdgeFromNoJump, 0)),
         // {13, 15} of the jmp at 6 and {13} of the jmp at 12 share 13 and differ
         ("shared-label", address(TargetSetsOverlap, 6), address(TargetSetsOverlap, 6)),
+        // the routine's jump has the places of both callers, and the bus may swap them; with memory guards the st at 12 has no guard
+        ("shared-return-by-jump", Verdict::Accepted, address(StoreUnguarded, 12)),
+        // the same with call and ret; with memory guards the st at 8 has no guard
+        ("shared-routine", Verdict::Accepted, address(StoreUnguarded, 8)),
         // plain, the st stops when it is run; with memory guards the st at 2 has no guard
         ("store-past-top", Verdict::Accepted, address(StoreUnguarded, 2)),
         // jmp r5 is not jmp r0
@@ -273,7 +277,6 @@ fn every_number_has_a_row_under_its_name() {
     assert_eq!(Refusal::ALL.map(Refusal::number).to_vec(), (1..=last_refusal).collect::<Vec<_>>(), "Refusal::ALL");
     let numbers = [
         ("## Numbers", (1..=last_refusal).collect()),
-        ("## Steps and stops", (1..=4).collect()),
         ("## Figures and totals", vec![0, 256, 257]),
     ];
     for (heading, numbers) in numbers {
@@ -286,6 +289,32 @@ fn every_number_has_a_row_under_its_name() {
             assert!(defined, "the header does not define {name} as {number}");
         }
     }
+}
+
+/// The page has the stops in the order in which they are tested. The header's answer is the stop's number, or 256 more where that is
+/// a refusal of the same calls.
+#[test]
+fn every_stop_has_a_row_in_its_order() {
+    let header = text_of("include/post_guard.h");
+    let order = [Stop::Fetch, Stop::Illegal, Stop::Access, Stop::Full, Stop::Empty, Stop::Next].map(Stop::number);
+    assert_eq!(order, [1, 2, 3, 5, 6, 4]);
+    let rows = rows("## Steps and stops");
+    assert_eq!(rows.iter().map(|row| row.0).collect::<Vec<_>>(), order);
+    for (number, name) in rows {
+        let answer = if [Refusal::PlaceTooShort, Refusal::Shape].map(Refusal::number).contains(&number) { 256 + number } else { number };
+        assert_eq!(defined(&header, &name), answer.to_string(), "{name}");
+    }
+    assert!(header.contains("#define PG_STOP_NUMBER(answer) ((answer) & 255)\n"));
+}
+
+#[test]
+fn the_words_of_a_state_are_those_of_the_header_and_the_crate() {
+    let (header, page) = (text_of("include/post_guard.h"), page());
+    let (words, places) = (std::mem::size_of::<State>() / 8, State::fresh([0; 32]).stack.len());
+    assert_eq!((words, places), (162, 128));
+    assert_eq!(defined(&header, "PG_STATE_WORDS"), words.to_string());
+    assert_eq!(defined(&header, "PG_STACK_PLACES"), places.to_string());
+    assert!(page.lines().any(|line| line.ends_with(&format!(" | {words} words for a state in C |"))), "the page has no such row");
 }
 
 /// what the header defines the name as

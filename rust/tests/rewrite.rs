@@ -175,11 +175,13 @@ fn small(r: &mut Random) -> u32 {
 /// an illegal word, often nearly an instruction that bare code must not have
 fn illegal(r: &mut Random) -> u64 {
     loop {
-        let word = match r.below(5) {
+        let word = match r.below(7) {
             0 => u64::MAX,
             1 => r.word(),
             2 => encode(Op::Movi(r.below(3) as u8, 5)) | 1 << (32 + r.below(16)),
             3 => encode(Op::Jd(r.word() as u32)) | 1 << (32 + r.below(24)),
+            4 => encode(Op::Call(r.word() as u32)) | 1 << (32 + r.below(24)),
+            5 => encode(Op::Ret) | 1 << r.below(56),
             _ => r.instruction_word(),
         };
         if decode(word) == Op::Illegal {
@@ -191,7 +193,7 @@ fn illegal(r: &mut Random) -> u64 {
 /// a word of bare code that is no jmp
 fn ordinary(r: &mut Random, n: usize) -> u64 {
     let target = r.below(n) as u32;
-    encode(match r.below(9) {
+    encode(match r.below(13) {
         0 => Op::Add(register(r), register(r), register(r)),
         1 => Op::Addi(register(r), register(r), small(r)),
         2 => Op::Movi(register(r), small(r)),
@@ -200,6 +202,8 @@ fn ordinary(r: &mut Random, n: usize) -> u64 {
         6 => Op::Ld(register(r), register(r), small(r)),
         7 => Op::St(register(r), register(r), small(r)),
         8 if r.chance(2) => return illegal(r),
+        9 | 10 => Op::Call(target),
+        11 | 12 => Op::Ret,
         _ => Op::Addi(register(r), register(r), 1),
     })
 }
@@ -271,6 +275,7 @@ fn damage(r: &mut Random, p: &mut Program) {
     let edge = if pairs > 0 { r.below(pairs) * 2 } else { 0 };
     match r.below(16) {
         0 | 1 => p.memory[at] = encode(reserved(r, n)),
+        2 if r.chance(2) => p.memory[at] = encode(Op::Call(outside(r, n).max(n as u32))),
         2 => p.memory[at] = encode(Op::Jd(outside(r, n).max(n as u32))),
         3 => p.memory[at] = encode(Op::Bgt(register(r), register(r), outside(r, n).max(n as u32))),
         4 => p.memory[at] = r.instruction_word(),
@@ -332,7 +337,8 @@ fn guarded_program(p: &Program, new: &Rewritten) -> post_guard::Program {
 struct Walks {
     made: usize,
     jumps: usize,
-    stops: [usize; 5],
+    returns: usize,
+    stops: [usize; 7],
 }
 
 impl Walks {
@@ -367,13 +373,14 @@ impl Walks {
                     assert!(is_successor(code, &program.edges, from, state.pc), "{from} to {}", state.pc);
                     self.made += 1;
                     self.jumps += usize::from(matches!(decode(code[from as usize]), Op::Jmp(_)));
+                    self.returns += usize::from(decode(code[from as usize]) == Op::Ret);
                 }
                 Step::Stopped(stop) => {
                     self.stops[stop.number() as usize] += 1;
                     assert!(stop != Stop::Fetch);
                     assert!(stop != Stop::Next || matches!(decode(code[from as usize]), Op::Jmp(_)), "stop 4 at {from}");
-                    // the bus may mend a load, a store or a jmp; an illegal word stays illegal
-                    if stop == Stop::Illegal || r.chance(3) {
+                    // the bus may mend a load, a store or a jmp; an illegal word stays illegal, and the stack as it is
+                    if matches!(stop, Stop::Illegal | Stop::Full | Stop::Empty) || r.chance(3) {
                         state = State::fresh(state.registers);
                     }
                 }
@@ -410,11 +417,11 @@ fn bare_programs_are_rewritten_as_the_reference_says() {
     }
     println!("{walks:?}");
     assert_given(&seen, &[0, 5, 6, 7, 8, 9, 10, 18, 20, 21, 22], 100);
-    assert!(walks.made > 500_000 && walks.jumps > 5_000, "{walks:?}");
-    assert!(walks.stops[2] > 1_000 && walks.stops[3] > 1_000 && walks.stops[4] > 0, "{walks:?}");
+    assert!(walks.made > 500_000 && walks.jumps > 5_000 && walks.returns > 5_000, "{walks:?}");
+    assert!(walks.stops[2] > 1_000 && walks.stops[3] > 1_000 && walks.stops[4] > 0 && walks.stops[6] > 1_000, "{walks:?}");
 }
 
-/// Every program of up to three words out of ten, with every set of edges between their addresses.
+/// Every program of up to three words out of twelve, with every set of edges between their addresses.
 #[test]
 fn all_small_programs() {
     let mut r = Random::new(82);
@@ -425,6 +432,9 @@ fn all_small_programs() {
             Op::Jmp(31),
             Op::Jd(0),
             Op::Jd(n as u32),
+            Op::Call(n as u32 - 1),
+            Op::Call(n as u32),
+            Op::Ret,
             Op::Bgt(3, 4, n as u32 - 1),
             Op::Movi(3, 1),
             Op::Movi(2, 1),
@@ -464,6 +474,8 @@ fn every_register_in_every_field() {
                     (Op::Movi(x, w), low(&[x])),
                     (Op::Bgt(x, y, w), low(&[x, y])),
                     (Op::Jd(w), false),
+                    (Op::Call(w), false),
+                    (Op::Ret, false),
                     (Op::Jmp(x), low(&[x])),
                     (Op::Ld(x, y, w), low(&[x, y])),
                     (Op::St(x, y, w), low(&[x, y])),
@@ -510,7 +522,7 @@ fn branch_targets_at_the_ends() {
             let near = [0, n - 1, n, n + 1, n + d, 2 * n];
             let far = [2047, 2048, 2049, 65_535, 65_536, 65_536 + n - 1, 1 << 31, u32::MAX as usize - 1, u32::MAX as usize];
             for w in near.into_iter().chain(far) {
-                for branch in [Op::Jd(w as u32), Op::Bgt(3, 4, w as u32)] {
+                for branch in [Op::Jd(w as u32), Op::Call(w as u32), Op::Bgt(3, 4, w as u32)] {
                     let mut memory = vec![encode(Op::Movi(5, 0)); n + d];
                     memory[n - 1] = encode(branch);
                     let p = Program { memory, n, edges: Vec::new() };
@@ -835,6 +847,10 @@ fn what_is_said_of_every_result() {
                     assert_eq!(decode(code[at]), Op::Jd(map[w as usize].into()));
                     at += 1;
                 }
+                Op::Call(w) => {
+                    assert_eq!(decode(code[at]), Op::Call(map[w as usize].into()));
+                    at += 1;
+                }
                 _ => {
                     kept.push(code[at]);
                     at += 1;
@@ -842,7 +858,7 @@ fn what_is_said_of_every_result() {
             }
             assert_eq!(at, map.get(a + 1).map_or(code.len() - 1, |&next| next.into()), "nothing is between the blocks");
         }
-        let same = |op: &Op| !matches!(op, Op::Jmp(_) | Op::Bgt(..) | Op::Jd(_));
+        let same = |op: &Op| !matches!(op, Op::Jmp(_) | Op::Bgt(..) | Op::Jd(_) | Op::Call(_));
         assert_eq!(kept, (0..n).filter(|&a| same(&old[a])).map(|a| p.memory[a]).collect::<Vec<_>>());
 
         assert_eq!(program.edges.len(), p.edges.len());
@@ -1001,13 +1017,13 @@ fn with_addresses(r: &mut Random) -> (Program, Vec<usize>) {
     (p, movis)
 }
 
-/// With its addresses mapped, a guarded program does what the bare one does, block by block: it makes the same values and is at the
-/// mapped address. Where the bare program leaves its graph at a jmp, the guarded one goes to HALT; where the bare one falls off its
-/// end, too.
+/// With its addresses mapped, a guarded program does what the bare one does, block by block: it makes the same values, is at the
+/// mapped address, and has the mapped return addresses on its stack. Where the bare program leaves its graph at a jmp, the guarded
+/// one goes to HALT; where the bare one falls off its end, or returns to it, too.
 #[test]
 fn guarded_programs_do_what_the_bare_ones_do() {
     let mut r = Random::new(94);
-    let (mut blocks, mut jumps, mut left, mut ended, mut fell) = (0, 0, 0, 0, 0);
+    let (mut blocks, mut jumps, mut returns, mut left, mut ended, mut fell, mut came_back) = (0, 0, 0, 0, 0, 0, 0);
     for _ in 0..20_000 {
         let (p, movis) = with_addresses(&mut r);
         let (n, d) = (p.n, p.memory.len() - p.n);
@@ -1032,6 +1048,8 @@ fn guarded_programs_do_what_the_bare_ones_do() {
             let address = |register: usize| guarded.new_address(old[register]).unwrap().into();
             std::array::from_fn(|register| if register < 20 { old[register] } else { address(register) })
         };
+        // a return address a + 1 is where the block of a + 1 begins; n is HALT, and a place that no call has written is 0 in both
+        let homes = |stack: [u64; 128]| stack.map(|home| map.get(home as usize).map_or(new_n as u64 - 1, |&new| new.into()));
         let (mut state, mut new_state) = (State::fresh(old), State::fresh(mapped(old)));
         for _ in 0..60 {
             let a = state.pc as usize;
@@ -1052,17 +1070,24 @@ fn guarded_programs_do_what_the_bare_ones_do() {
                     assert_eq!(new_state.pc, u64::from(map[state.pc as usize]), "{op:?} at {a}");
                     assert_eq!(new_state.registers[3..], mapped(state.registers)[3..], "{op:?} at {a}");
                     assert_eq!(memory[new_n..], bare.memory[n..], "{op:?} at {a}");
+                    assert_eq!((new_state.depth, new_state.stack), (state.depth, homes(state.stack)), "{op:?} at {a}");
                     blocks += 1;
                     jumps += usize::from(matches!(op, Op::Jmp(_)));
+                    returns += usize::from(op == Op::Ret);
                 }
-                Step::Stopped(Stop::Illegal) => {
+                Step::Stopped(stop @ (Stop::Illegal | Stop::Full | Stop::Empty)) => {
                     let ran = run(&mut new_state, &mut memory, 100);
-                    assert_eq!((ran.ending, ran.count), (Ending::Stopped(Stop::Illegal), label));
+                    assert_eq!((ran.ending, ran.count), (Ending::Stopped(stop), label));
                     ended += 1;
                     break;
                 }
                 Step::Stopped(Stop::Next) => {
-                    assert_eq!(a, n - 1);
+                    if op == Op::Ret {
+                        assert_eq!(state.pending().last(), Some(&(n as u64)));
+                        came_back += 1;
+                    } else {
+                        assert_eq!(a, n - 1);
+                    }
                     let ran = run(&mut new_state, &mut memory, 100);
                     assert_eq!((ran.ending, ran.count), (Ending::Stopped(Stop::Illegal), label + 1));
                     assert_eq!(new_state.pc, new_n as u64 - 1);
@@ -1073,6 +1098,8 @@ fn guarded_programs_do_what_the_bare_ones_do() {
             }
         }
     }
-    println!("blocks: {blocks}, of jumps {jumps}; left the graph: {left}, ended: {ended}, fell off the end: {fell}");
+    println!("blocks: {blocks}, of jumps {jumps}, of returns {returns}; left the graph: {left}, ended: {ended}");
+    println!("fell off the end: {fell}, of these at a ret: {came_back}");
     assert!(blocks > 100_000 && jumps > 5_000 && left > 1_000 && ended > 1_000 && fell > 500);
+    assert!(returns > 1_500 && came_back > 20, "{returns} and {came_back}");
 }

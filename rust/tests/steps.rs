@@ -5,9 +5,12 @@ mod common;
 
 use common::{accepted, Random};
 use post_guard::raw;
-use reference::{State, Technique, TECHNIQUES};
+use reference::{State, Technique, STOP_EMPTY, STOP_FULL, TECHNIQUES};
 
 const MARK: u64 = 0x5ca1_ab1e_0ddb_a115;
+
+/// 32 registers, the pc, the depth, and 128 places of the stack
+const STATE_WORDS: usize = 162;
 
 /// The same call on the library's words and on the reference's, with what lies past the lent words.
 struct Both {
@@ -20,9 +23,8 @@ struct Both {
 }
 
 impl Both {
-    fn new(registers: [u64; 32], pc: u64, memory: &[u64], state_len: usize) -> Both {
-        let mut state = registers.to_vec();
-        state.push(pc);
+    fn new(reference: State, memory: &[u64], state_len: usize) -> Both {
+        let mut state = words_of(&reference);
         state.extend([MARK; 3]);
         let mut whole = memory.to_vec();
         whole.extend([MARK; 3]);
@@ -31,19 +33,21 @@ impl Both {
             state_len,
             memory: whole.clone(),
             memory_len: memory.len(),
-            reference: State { regs: registers, pc },
+            reference,
             reference_memory: whole,
         }
     }
 
     fn short(&self) -> bool {
-        self.state_len < 33
+        self.state_len < STATE_WORDS
     }
 
     fn compare(&self, what: &str) {
         assert_eq!(self.state[..32], self.reference.regs, "registers after {what}");
         assert_eq!(self.state[32], self.reference.pc, "pc after {what}");
-        assert_eq!(self.state[33..], [MARK; 3], "past the state after {what}");
+        assert_eq!(self.state[33], self.reference.depth, "depth after {what}");
+        assert_eq!(self.state[34..STATE_WORDS], self.reference.stack, "stack after {what}");
+        assert_eq!(self.state[STATE_WORDS..], [MARK; 3], "past the state after {what}");
         assert!(self.memory == self.reference_memory, "memory after {what}");
     }
 
@@ -101,6 +105,14 @@ impl Both {
     }
 }
 
+/// the state as it is lent: r0 to r31, the pc, the depth, the stack with its oldest place first
+fn words_of(state: &State) -> Vec<u64> {
+    let mut words = state.regs.to_vec();
+    words.extend([state.pc, state.depth]);
+    words.extend(state.stack);
+    words
+}
+
 /// 0 is plain, any other number is with memory guards
 fn number_for(r: &mut Random, technique: Technique) -> u8 {
     match technique {
@@ -124,20 +136,50 @@ fn pc(r: &mut Random, len: usize) -> u64 {
     r.below(len + 2) as u64
 }
 
+/// often at an end, or above 128
+fn depth(r: &mut Random) -> u64 {
+    match r.below(12) {
+        0 => r.pick(&[129, 130, 255, 256, 1 << 32, (1 << 32) + 3, 1 << 63, u64::MAX]),
+        1 | 2 => 128,
+        3 => 127,
+        4 | 5 => 0,
+        6 => 1,
+        _ => r.below(129) as u64,
+    }
+}
+
+/// A state with this pc and any words elsewhere: many of them are addresses around the end of memory.
+fn any_state(r: &mut Random, len: usize, pc: u64) -> State {
+    let stack = std::array::from_fn(|_| if r.chance(6) { r.odd_number() } else { r.below(len + 1) as u64 });
+    State { regs: registers(r, len), pc, depth: depth(r), stack }
+}
+
+/// such a state with room for a call and with an address for a ret, which is this one
+fn amid(r: &mut Random, len: usize, pc: u64, home: u64) -> State {
+    let mut state = any_state(r, len, pc);
+    state.depth = 1 + r.below(127) as u64;
+    state.stack[state.depth as usize - 1] = home;
+    state
+}
+
 #[test]
 fn single_steps() {
     let mut r = Random::new(11);
+    let mut seen = std::collections::HashMap::new();
     for round in 0..150_000usize {
         let len = 1 + r.below(24);
         let n = if r.chance(20) { r.below(len + 3) } else { 1 + r.below(len) };
         let memory: Vec<u64> = (0..len).map(|_| r.instruction_word()).collect();
         let technique = TECHNIQUES[round % 2];
-        let state_len = if r.chance(50) { r.below(37) } else { 33 + r.below(3) };
-        let mut both = Both::new(registers(&mut r, len), pc(&mut r, len), &memory, state_len);
+        let state_len = if r.chance(50) { r.below(STATE_WORDS + 4) } else { STATE_WORDS + r.below(3) };
+        let pc = pc(&mut r, len);
+        let mut both = Both::new(any_state(&mut r, len, pc), &memory, state_len);
         let number = number_for(&mut r, technique);
-        both.step(technique, number, n);
+        *seen.entry(both.step(technique, number, n)).or_insert(0) += 1;
         both.compare("a step");
     }
+    println!("how often each was answered: {seen:?}");
+    assert!([0, 1, 2, 3, 4, 5, 6, STOP_FULL, STOP_EMPTY].iter().all(|answer| seen[answer] > 200), "{seen:?}");
 }
 
 /// each instruction with addresses at both ends of 64 bits
@@ -156,14 +198,16 @@ fn sums_and_addresses_at_the_ends() {
                     reference::Op::Jd(w),
                     reference::Op::Ld(3, 4, w),
                     reference::Op::St(4, 5, w),
+                    reference::Op::Call(w),
+                    reference::Op::Ret,
                 ] {
                     for technique in TECHNIQUES {
-                        let mut regs = registers(&mut r, 9);
-                        regs[4] = x;
-                        regs[5] = y;
+                        let mut state = amid(&mut r, 9, 3, x);
+                        state.regs[4] = x;
+                        state.regs[5] = y;
                         let mut memory = [7u64; 9];
                         memory[3] = reference::encode(op);
-                        let mut both = Both::new(regs, 3, &memory, 33);
+                        let mut both = Both::new(state, &memory, STATE_WORDS);
                         let number = number_for(&mut r, technique);
                         both.step(technique, number, 6);
                         both.compare("a step at the ends");
@@ -196,8 +240,8 @@ fn exact_addresses_at_the_ends() {
                         for pc in [0, n - 1] {
                             let mut memory: Vec<u64> = (0..len).map(|_| r.word()).collect();
                             memory[pc as usize] = reference::encode(op);
-                            let mut regs = registers(&mut r, len as usize);
-                            regs[4] = base;
+                            let mut state = amid(&mut r, len as usize, pc, 0);
+                            state.regs[4] = base;
                             let plain = technique == Technique::Plain;
                             let allowed = if plain && stores { n.into()..len.into() } else { 0..u128::from(len) };
                             let exact = u128::from(base) + u128::from(w);
@@ -208,7 +252,7 @@ fn exact_addresses_at_the_ends() {
                             } else {
                                 0
                             };
-                            let mut both = Both::new(regs, pc, &memory, 33);
+                            let mut both = Both::new(state, &memory, STATE_WORDS);
                             let number = number_for(&mut r, technique);
                             let answer = both.step(technique, number, n as usize);
                             assert_eq!(answer, expected, "{op:?} at {pc}, base {base:#x}, n {n}, {len} words");
@@ -246,7 +290,7 @@ fn shapes() {
                 for technique in TECHNIQUES {
                     let number = number_for(&mut r, technique);
                     for pc in [0, n as u64, (n as u64).wrapping_sub(1), len as u64, u64::MAX] {
-                        let mut both = Both::new(registers(&mut r, len), pc, &memory, 33);
+                        let mut both = Both::new(any_state(&mut r, len, pc), &memory, STATE_WORDS);
                         both.step(technique, number, n);
                         for limit in [0, 1, 300, 65_535] {
                             both.run(technique, number, n, limit, 1);
@@ -267,17 +311,21 @@ fn shapes() {
 #[test]
 fn registers_at_both_ends() {
     let mut r = Random::new(14);
-    for state_len in [0, 1, 32, 33, 34, 36] {
-        for register in (0..40).chain([63, 64, 255, 256, 1 << 31, 1 << 32, (1 << 32) + 3, 1 << 63, u64::MAX - 1, u64::MAX]) {
-            let mut both = Both::new(registers(&mut r, 9), 0, &[u64::MAX], state_len);
-            both.write_register(register, r.word());
-            both.compare("a register write");
+    for state_len in [0, 1, 32, 33, 34, 36, 161, 162, 163, 165] {
+        for register in (0..170).chain([255, 256, 1 << 31, 1 << 32, (1 << 32) + 3, 1 << 63, u64::MAX - 1, u64::MAX]) {
+            for depth in [0, 1, 127, 128, 129, 1 << 32, u64::MAX] {
+                let mut state = any_state(&mut r, 9, 0);
+                state.depth = depth;
+                let mut both = Both::new(state, &[u64::MAX], state_len);
+                both.write_register(register, r.word());
+                both.compare("a register write");
+            }
         }
     }
 }
 
-/// Steps, runs and register writes with a lent state of every length: below 33 words each call answers 5, and from 33 on only
-/// the first 33 words count. Each instruction is made, stops, and is refused for its shape.
+/// Steps, runs and register writes with a lent state of every length: below 162 words each call answers 5, and from 162 on only
+/// the first 162 words count. Each instruction is made, stops, and is refused for its shape.
 #[test]
 fn states_of_every_length() {
     use reference::Op;
@@ -292,15 +340,17 @@ fn states_of_every_length() {
         Op::Jmp(31),
         Op::Ld(31, 4, 0),
         Op::St(4, 31, 0),
+        Op::Call(1),
+        Op::Ret,
         Op::Illegal,
     ];
-    for state_len in 0..=36 {
+    for state_len in 0..=STATE_WORDS + 3 {
         for op in ops {
             for technique in TECHNIQUES {
                 for (n, pc) in [(6, 3), (4, 3), (6, 6), (6, 9), (6, u64::MAX), (0, 3), (10, 3), (2049, 3)] {
                     let mut memory = [7u64; 9];
                     memory[3] = reference::encode(op);
-                    let mut both = Both::new(registers(&mut r, 9), pc, &memory, state_len);
+                    let mut both = Both::new(any_state(&mut r, 9, pc), &memory, state_len);
                     let number = number_for(&mut r, technique);
                     both.step(technique, number, n);
                     both.compare("a step with this state");
@@ -308,7 +358,7 @@ fn states_of_every_length() {
                         both.run(technique, number, n, limit, count_len);
                         both.compare("a run with this state");
                     }
-                    for register in [0, 2, 3, 31, 32, 33, u64::MAX] {
+                    for register in [0, 2, 3, 31, 32, 33, 34, 161, 162, u64::MAX] {
                         both.write_register(register, r.word());
                         both.compare("a register write with this state");
                     }
@@ -318,7 +368,7 @@ fn states_of_every_length() {
     }
 }
 
-/// each instruction with each register in each of its fields: r31 stands beside the pc
+/// each instruction with each register in each of its fields: r31 stands beside the pc, which stands beside the depth
 #[test]
 fn every_register_in_every_field() {
     use reference::Op;
@@ -340,7 +390,7 @@ fn every_register_in_every_field() {
                 for technique in TECHNIQUES {
                     let mut memory = [7u64; 9];
                     memory[3] = reference::encode(op);
-                    let mut both = Both::new(registers(&mut r, 9), 3, &memory, 33);
+                    let mut both = Both::new(amid(&mut r, 9, 3, 5), &memory, STATE_WORDS);
                     let number = number_for(&mut r, technique);
                     both.step(technique, number, 6);
                     both.compare("a step with these registers");
@@ -362,7 +412,8 @@ fn lists_of_calls() {
         let d = r.below(20);
         let program = accepted(&mut r, technique, n, d);
         assert_eq!(reference::checkers::check(technique, &program.memory, n, &program.edges), (0, 0, 0));
-        let mut both = Both::new(registers(&mut r, n + d), 0, &program.memory, 33);
+        let fresh = State::fresh(registers(&mut r, n + d));
+        let mut both = Both::new(fresh, &program.memory, STATE_WORDS);
         for _ in 0..1 + r.below(40) {
             calls += 1;
             let number = number_for(&mut r, technique);
@@ -420,7 +471,8 @@ fn lists_over_random_words() {
         let len = 1 + r.below(40);
         let n = 1 + r.below(len);
         let memory: Vec<u64> = (0..len).map(|_| r.instruction_word()).collect();
-        let mut both = Both::new(registers(&mut r, len), pc(&mut r, n), &memory, 33);
+        let pc = pc(&mut r, n);
+        let mut both = Both::new(any_state(&mut r, len, pc), &memory, STATE_WORDS);
         for _ in 0..8 {
             let number = number_for(&mut r, technique);
             both.run(technique, number, n, r.below(100) as u16, 1);

@@ -32,6 +32,20 @@ fn words() {
     assert_eq!(decode(0x0600_0000_0000_0001), Instruction::Illegal);
 }
 
+/// Document 02, K8: "call w (opcode 9, fields as jd) and ret (opcode 10, every field 0)". Opcode 11 is none.
+#[test]
+fn words_of_call_and_ret() {
+    assert_eq!((decode(0x0900_0000_0000_0007), encode(Call { w: 7 })), (Call { w: 7 }, 0x0900_0000_0000_0007));
+    assert_eq!((decode(0x0a00_0000_0000_0000), encode(Ret)), (Ret, 0x0a00_0000_0000_0000));
+    assert_eq!(decode(0x0900_0000_ffff_ffff), Call { w: u32::MAX });
+    for word in [0x0901_0000_0000_0007, 0x0900_0100_0000_0007, 0x0900_0001_0000_0007, 0x0b00_0000_0000_0000] {
+        assert_eq!(decode(word), Instruction::Illegal, "{word:#x}");
+    }
+    for bit in 0..56 {
+        assert_eq!(decode(0x0a00_0000_0000_0000 | 1 << bit), Instruction::Illegal, "bit {bit}");
+    }
+}
+
 #[test]
 fn verdicts() {
     let plain = |memory: &[u64], edges: &[u16]| check(Technique::Plain, memory, 9, edges);

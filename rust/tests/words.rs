@@ -33,7 +33,8 @@ fn words_decode_as_the_reference_says() {
 #[test]
 fn single_bits_and_single_bytes_decode_as_the_reference_says() {
     let mut words: Vec<u64> = vec![0, u64::MAX];
-    for base in [0u64, u64::MAX, 0x0302_0000_0000_0007, 0x0100_0000_0000_0000, 0x0800_0000_0000_0000] {
+    let calls = [0x0900_0000_0000_0007, 0x0a00_0000_0000_0000];
+    for base in [0u64, u64::MAX, 0x0302_0000_0000_0007, 0x0100_0000_0000_0000, 0x0800_0000_0000_0000].into_iter().chain(calls) {
         for bit in 0..64 {
             words.push(base ^ 1 << bit);
         }
@@ -57,7 +58,7 @@ fn fields_encode_as_the_reference_says() {
     let mut r = Random::new(2);
     for _ in 0..1_000_000 {
         let word = r.instruction_word();
-        let opcode = if r.chance(8) { r.below(256) as u8 } else { r.below(10) as u8 };
+        let opcode = if r.chance(8) { r.below(256) as u8 } else { r.below(12) as u8 };
         let (a, b, c, w) = ((word >> 48) as u8, (word >> 40) as u8, (word >> 32) as u8, word as u32);
         let op = reference::instruction(opcode, a, b, c, w);
         assert_eq!(raw::encode(opcode, a, b, c, w), reference::encode(op), "{op:?}");
@@ -78,6 +79,8 @@ fn named(instruction: post_guard::Instruction) -> reference::Op {
         I::Jmp { rs } => Op::Jmp(rs),
         I::Ld { rd, rs, w } => Op::Ld(rd, rs, w),
         I::St { rd, rs, w } => Op::St(rd, rs, w),
+        I::Call { w } => Op::Call(w),
+        I::Ret => Op::Ret,
         I::Illegal => Op::Illegal,
     }
 }

@@ -35,6 +35,8 @@ named_first Kind.Jd x y z = refl
 named_first Kind.Jmp x y z = refl
 named_first Kind.Ld x y z = refl
 named_first Kind.St x y z = refl
+named_first Kind.Call x y z = refl
+named_first Kind.Ret x y z = refl
 named_first Kind.Unknown x y z = refl
 
 pub low_by_kind : (x : ℕ) → names_low (registers_in (fields_of (decode_of x)).kind) x ≡ names_reserved (decode_of x)
@@ -50,7 +52,7 @@ low_by_kind x = go (exact (split x)) refl
         (sym (named_first (split x).kind (x / 2 ^ 48 % 256) (x / 2 ^ 40 % 256) (x / 2 ^ 32 % 256)))
 
 -- a branch's target is the low half of its word
-branch_kind : (k : Kind) → (same_kind Kind.Bgt k || same_kind Kind.Jd k) ≡ has_target k
+branch_kind : (k : Kind) → (same_kind Kind.Bgt k || (same_kind Kind.Jd k || same_kind Kind.Call k)) ≡ has_target k
 branch_kind Kind.Label = refl
 branch_kind Kind.Add = refl
 branch_kind Kind.Addi = refl
@@ -60,6 +62,8 @@ branch_kind Kind.Jd = refl
 branch_kind Kind.Jmp = refl
 branch_kind Kind.Ld = refl
 branch_kind Kind.St = refl
+branch_kind Kind.Call = refl
+branch_kind Kind.Ret = refl
 branch_kind Kind.Unknown = refl
 
 pub out_by_kind : (x n : ℕ) → (has_target (fields_of (decode_of x)).kind && leb n (x % 2 ^ 32)) ≡ outside n (branch_target (decode_of x))

@@ -24,6 +24,8 @@ registers_in Kind.Jd = 0
 registers_in Kind.Jmp = 1
 registers_in Kind.Ld = 2
 registers_in Kind.St = 2
+registers_in Kind.Call = 0
+registers_in Kind.Ret = 0
 registers_in Kind.Unknown = 0
 
 -- a word of this kind is a branch
@@ -37,6 +39,8 @@ has_target Kind.Jd = true
 has_target Kind.Jmp = false
 has_target Kind.Ld = false
 has_target Kind.St = false
+has_target Kind.Call = true
+has_target Kind.Ret = false
 has_target Kind.Unknown = false
 
 -- one of the first so many fields of a word is r0, r1 or r2

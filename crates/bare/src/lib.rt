@@ -85,7 +85,7 @@ fn leads_out(kind: Kind, word: u64, n: usize) -> bool
 fn has_target(kind: Kind) -> bool
     ensures { result ≡ has_target kind }
 {
-    matches!(kind, Kind::Bgt | Kind::Jd)
+    matches!(kind, Kind::Bgt | Kind::Jd | Kind::Call)
 }
 
 fn names_low(word: u64, count: u8) -> bool
@@ -102,7 +102,7 @@ fn registers_in(kind: Kind) -> u8
         Kind::Add => 3,
         Kind::Addi | Kind::Bgt | Kind::Ld | Kind::St => 2,
         Kind::Movi | Kind::Jmp => 1,
-        Kind::Label | Kind::Jd | Kind::Unknown => 0,
+        Kind::Label | Kind::Jd | Kind::Call | Kind::Ret | Kind::Unknown => 0,
     }
 }
 

@@ -10,7 +10,7 @@ ghost use Rattle.bus.specs.Lent.{WritesRegisterLent};
 ghost use Rattle.bus.specs.Inside.{PutsRegister};
 
 use answers::Refusal;
-use machine::State;
+use machine::{STATE_WORDS, State};
 
 #[derive(Clone, Copy, Debug, PartialEq, Eq)]
 pub struct RegisterWritten {
@@ -35,14 +35,19 @@ pub fn write_data(memory: &mut [u64], n: usize, address: u64, word: u64) -> Resu
 }
 
 // A bus write to a register.
-#[tactic(auto, using(crate::proofs::Lent::register_written))]
 pub fn write_register(state: State, register: u64, word: u64) -> RegisterWritten
     ensures { WritesRegister state register word result }
 {
     let mut regs = state.regs;
-    let answer = put_register(&mut regs, register, word);
+    let stack = state.stack;
+    let answer = put_register(state.depth, &mut regs, register, word);
     RegisterWritten {
-        state: State { regs, pc: state.pc },
+        state: State {
+            regs,
+            pc: state.pc,
+            depth: state.depth,
+            stack,
+        },
         answer,
     }
 }
@@ -51,17 +56,20 @@ pub fn write_register(state: State, register: u64, word: u64) -> RegisterWritten
 pub fn write_register_lent(state: &mut [u64], register: u64, word: u64) -> Result<(), Refusal>
     ensures { WritesRegisterLent state.old register word result state.new }
 {
-    if state.len() < 33 {
+    if state.len() < STATE_WORDS {
         return Err(Refusal::PlaceTooShort);
     }
-    put_register(state, register, word)
+    put_register(state[33], state, register, word)
 }
 
-// The word into r3 to r31, where the register is one of them.
-fn put_register(regs: &mut [u64], register: u64, word: u64) -> Result<(), Refusal>
+// The word into r3 to r31, where the register is one of them, of a state of this depth.
+fn put_register(depth: u64, regs: &mut [u64], register: u64, word: u64) -> Result<(), Refusal>
     requires { 32 ≤ length regs.old }
-    ensures { PutsRegister regs.old register word result regs.new }
+    ensures { PutsRegister depth regs.old register word result regs.new }
 {
+    if 128 < depth {
+        return Err(Refusal::Shape);
+    }
     if !(3..=31).contains(&register) {
         return Err(Refusal::NotRegister);
     }

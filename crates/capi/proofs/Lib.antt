@@ -2,3 +2,4 @@ pub mod Rooms
 pub mod Puts
 pub mod Parcels
 pub mod Unchanged
+pub mod Apart

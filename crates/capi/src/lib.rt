@@ -4,13 +4,14 @@
 
 ghost use Rattle.std.specs.Prelude.{◌≡◌, cond, ◌||◌, ◌++◌, drop, length, ltb, MatchResult};
 ghost use Rattle.capi.specs.Words.{DecodeCall, encode_call, too_short};
-ghost use Rattle.capi.specs.States.{technique_of, StepCall, RunCall, WriteDataCall, WriteRegisterCall};
+ghost use Rattle.capi.specs.States.{technique_of, stop_answer, outcome_answer, StepCall, RunCall, WriteDataCall, WriteRegisterCall};
 ghost use Rattle.capi.specs.Inside.{Ordered, RunNumber};
 ghost use Rattle.capi.specs.Checks.{answer_number, answer_place, place_numbers, place_after, AnswerPut, CheckCall};
 ghost use Rattle.capi.specs.Parcels.{ReadPut, ReadCall, WriteCall, WritePlacedCall, WrittenPut};
 
 use answers::{Fault, Place, Refusal};
 use isa::Technique;
+use machine::{Halt, STATE_WORDS, Stop};
 use parcel::{Counts, InBytes};
 use rising::EdgeNumber;
 
@@ -54,7 +55,7 @@ pub fn pg_run(
 ) -> u32
     ensures { RunCall technique n limit state.old memory.old count.old result state.new memory.new count.new }
 {
-    if state.len() < 33 || count.len() < 1 {
+    if state.len() < STATE_WORDS || count.len() < 1 {
         return too_short();
     }
     let ran = run_number(order_of(technique, limit), state, memory, n);
@@ -249,7 +250,7 @@ fn place_numbers(at: Place) -> [u64; 2]
     }
 }
 
-// The number of a stop or of a refusal, or 0 where there is none.
+// The number of a refusal, or 0 where there is none.
 fn number_of<T: Copy, E: Copy + Into<u8>>(answer: Result<T, E>) -> u32
     ensures { MatchResult answer (λ _. result ≡ 0) (λ e. E.converts e result) }
 {
@@ -273,7 +274,32 @@ fn run_number(order: u32, state: &mut [u64], memory: &mut [u64], n: usize) -> u6
     let technique = (order % 256) as u8;
     let limit = (order / 256 % 65536) as u16;
     let ended = machine::run_lent(technique_of(technique), state, memory, n, limit);
-    u64::from(ended.count) * 0x1_0000_0000 + u64::from(number_of(ended.ending))
+    u64::from(ended.count) * 0x1_0000_0000 + u64::from(outcome_answer(ended.ending))
+}
+
+// The number of a stop or of a refusal, or 0 where there is none.
+fn outcome_answer(outcome: Result<(), Halt>) -> u32
+    ensures { result ≡ outcome_answer outcome }
+{
+    match outcome {
+        Ok(()) => 0,
+        Err(Halt::Stopped(stop)) => stop_answer(stop),
+        Err(Halt::Refused(refusal)) => u32::from(u8::from(refusal)),
+    }
+}
+
+// Stops 5 and 6 have the numbers of two refusals: so 256 is added to theirs.
+fn stop_answer(stop: Stop) -> u32
+    ensures { result ≡ stop_answer stop }
+{
+    match stop {
+        Stop::Fetch => 1,
+        Stop::Illegal => 2,
+        Stop::Access => 3,
+        Stop::Next => 4,
+        Stop::Full => 261,
+        Stop::Empty => 262,
+    }
 }
 
 // The number is the C interface's: `From` could only stand in `isa`, where techniques have no numbers.

@@ -1,4 +1,4 @@
-// Targets of bgt and jd: rule 15. Where rules 13 and 14 have passed, a word is inside a guard sequence exactly when a jmp, or a
+// Targets of bgt, jd and call: rule 15. Where rules 13 and 14 have passed, a word is inside a guard sequence exactly when a jmp, or a
 // st, stands within the next few words.
 ghost use Rattle.std.specs.Prelude.{◌≡◌, ◌<◌, ◌≤◌};
 ghost use Rattle.isa.specs.Instructions.{instr_at, is_jump, is_store};
@@ -9,7 +9,7 @@ ghost use Rattle.lists.specs.Search.{first};
 use crate::claim::{Claim, Code};
 use isa::{Kind, Technique, branch_target};
 
-// Rule 15: the lowest bgt or jd that breaks the target condition.
+// Rule 15: the lowest bgt, jd or call that breaks the target condition.
 #[tactic(auto, unfolding(lists::specs::Search::first))]
 pub(crate) fn first_wrong_branch(technique: Technique, claim: &Claim<'_>) -> Option<usize>
     requires { GuardsKept technique claim.now.code.memory.now claim.now.code.n claim.now.edges.now }

@@ -52,6 +52,8 @@ impl Writer<'_> {
         match self.plan.item(at) {
             Item::Straight => self.straight(random),
             Item::Branch => self.branch(random),
+            Item::Call => self.call(at, random),
+            Item::Return => word(Kind::Ret, 0, 0, 0, 0),
             Item::Last => last(random),
             Item::Inside => self.inside(at, random),
             Item::AimAtData => {
@@ -101,6 +103,17 @@ impl Writer<'_> {
         }
     }
 
+    // A call of a routine most of the time, else of such a place or of itself, which fills the stack.
+    fn call(self, at: usize, random: &mut Random) -> u64 {
+        let place = self.plan.safe_place(random.below(self.n));
+        let target = match random.below(8) {
+            0 => at,
+            1 => place,
+            _ => self.plan.some_routine(random).unwrap_or(place),
+        };
+        word(Kind::Call, 0, 0, 0, low(target))
+    }
+
     // A word of a guard but its first, the k-th of them; a store's last is the store.
     fn inside(self, at: usize, random: &mut Random) -> u64 {
         let first = self.plan.safe_place(at);
@@ -147,17 +160,20 @@ impl Writer<'_> {
     }
 }
 
+// An illegal word, at times with an opcode that there is not, or with a field that a call or a ret does not have.
 fn last(random: &mut Random) -> u64 {
-    if random.once_in(4) {
-        u64::from(Fields {
-            op: 9,
+    match random.below(16) {
+        0 | 1 => u64::from(Fields {
+            op: 11,
             a: 0,
             b: 0,
             c: 0,
             w: 7,
-        })
-    } else {
-        ONES
+        }),
+        2 => word(Kind::Call, 0, 0, 1, 7),
+        3 => word(Kind::Ret, 1, 0, 0, 0),
+        4 => word(Kind::Ret, 0, 0, 0, 7),
+        _ => ONES,
     }
 }
 

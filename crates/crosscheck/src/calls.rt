@@ -1,8 +1,9 @@
 // Random lists of calls over accepted programs (document 01, "Lists of calls"): each step made is held against the graph of the
-// checked words and edges, and after each step all code words are those checked. A run is made twice, as a run and as its steps
-// one by one, on two memories that must stay the same.
+// checked words and edges, each ret also against the calls made before it, and after each step all code words are those checked. A
+// run is made twice, as a run and as its steps one by one, on two memories that must stay the same.
 use crate::codes::Course;
 use crate::edges::{edge_at, pairs};
+use crate::pending::Pending;
 use crate::random::Random;
 use crate::second::Code;
 use crate::tally::Tally;
@@ -25,6 +26,7 @@ pub(crate) fn hold_list(course: &mut Course, code: Code) {
     let mut walk = Walk {
         code,
         state: State::fresh(random_registers(len, &mut course.random)),
+        pending: Pending::none(),
         memory: &mut memory[..len],
         twin: &mut twin[..len],
     };
@@ -43,6 +45,7 @@ fn random_registers(len: usize, random: &mut Random) -> [u64; 32] {
 struct Walk<'a> {
     code: Code<'a>,
     state: State,
+    pending: Pending,
     memory: &'a mut [u64],
     twin: &'a mut [u64],
 }
@@ -59,12 +62,12 @@ impl Walk<'_> {
         }
     }
 
-    // One step most of the time.
+    // One step most of the time, at times so many that calls may fill the stack.
     fn run_twice(&mut self, course: &mut Course) {
-        let limit = if course.random.once_in(3) {
-            course.random.below(60) as u16
-        } else {
-            1
+        let limit = match course.random.below(12) {
+            0 => course.random.below(600) as u16,
+            1..=3 => course.random.below(60) as u16,
+            _ => 1,
         };
         let by_steps = self.walk(limit, &mut course.tally);
         let code = self.code;
@@ -86,19 +89,65 @@ impl Walk<'_> {
             state = stepped.state;
             tally.code_changed.add(!self.keeps_code());
             if let Err(halt) = stepped.outcome {
-                hold_stop(tally, code, pc, halt);
+                self.hold_stop(tally, pc, halt);
                 return Ran {
                     state,
                     ending: Err(halt),
                     count,
                 };
             }
-            hold_made(tally, code, pc, state.pc as usize);
+            self.hold_made(tally, pc, state.pc as usize);
         }
         Ran {
             state,
             ending: Ok(()),
             count: limit,
+        }
+    }
+
+    fn hold_made(&mut self, tally: &mut Tally, pc: usize, next: usize) {
+        let kind = self.code.kind(pc);
+        tally.steps.add(true);
+        tally.jumps.add(kind == Some(Kind::Jmp));
+        tally.stores.add(kind == Some(Kind::St));
+        tally.outside.add(!self.code.succeeds(pc, next));
+        if kind == Some(Kind::Call) {
+            let room = self.pending.push(pc.wrapping_add(1));
+            tally.calls.add(true);
+            tally.full_calls.add(!room);
+        }
+        if kind == Some(Kind::Ret) {
+            tally.returns.add(true);
+            tally.nested.add(self.pending.is_nested());
+            let home = self.pending.pop();
+            tally.astray.add(home != Some(next));
+        }
+    }
+
+    fn hold_stop(&self, tally: &mut Tally, pc: usize, halt: Halt) {
+        tally.stops.add(true);
+        tally.fours.add(halt == Halt::Stopped(Stop::Next));
+        tally.fives.add(halt == Halt::Stopped(Stop::Full));
+        tally.sixes.add(halt == Halt::Stopped(Stop::Empty));
+        tally.wrong_stops.add(!self.stop_allowed(pc, halt));
+    }
+
+    // "With memory guards, every step in it that cannot be made gives stop 2, or stop 3 with a load at the pc", or 5 or 6: "a program
+    // may meet these two as well" (document 02, K8). "An accepted plain program then meets stop 4 at a jmp only." 5 is for a call with
+    // 128 before it that are not returned from, 6 for a ret with none.
+    fn stop_allowed(&self, pc: usize, halt: Halt) -> bool {
+        let kind = self.code.kind(pc);
+        let Halt::Stopped(stop) = halt else {
+            return false;
+        };
+        match (self.code.technique, stop) {
+            (_, Stop::Full) => kind == Some(Kind::Call) && self.pending.is_full(),
+            (_, Stop::Empty) => kind == Some(Kind::Ret) && self.pending.is_empty(),
+            (Technique::MemoryGuards, Stop::Illegal) => true,
+            (Technique::MemoryGuards, Stop::Access) => kind == Some(Kind::Ld),
+            (Technique::MemoryGuards, _) => false,
+            (Technique::Plain, Stop::Next) => kind == Some(Kind::Jmp),
+            (Technique::Plain, _) => true,
         }
     }
 
@@ -158,37 +207,6 @@ impl Walk<'_> {
         } else {
             edge_at(self.code.edges, k).map_or(ONES, |edge| words::at(self.code.memory, edge.to))
         }
-    }
-}
-
-fn hold_made(tally: &mut Tally, code: Code, pc: usize, next: usize) {
-    let kind = code.kind(pc);
-    tally.steps.add(true);
-    tally.jumps.add(kind == Some(Kind::Jmp));
-    tally.stores.add(kind == Some(Kind::St));
-    tally.outside.add(!code.succeeds(pc, next));
-}
-
-fn hold_stop(tally: &mut Tally, code: Code, pc: usize, halt: Halt) {
-    tally.stops.add(true);
-    tally.fours.add(halt == Halt::Stopped(Stop::Next));
-    tally
-        .wrong_stops
-        .add(!stop_allowed(code.technique, code.kind(pc), halt));
-}
-
-// "With memory guards, every step in it that cannot be made gives stop 2, or stop 3 with a load at the pc." "An accepted plain
-// program then meets stop 4 at a jmp only."
-fn stop_allowed(technique: Technique, kind: Option<Kind>, halt: Halt) -> bool {
-    let Halt::Stopped(stop) = halt else {
-        return false;
-    };
-    match (technique, stop) {
-        (Technique::MemoryGuards, Stop::Illegal) => true,
-        (Technique::MemoryGuards, Stop::Access) => kind == Some(Kind::Ld),
-        (Technique::MemoryGuards, _) => false,
-        (Technique::Plain, Stop::Next) => kind == Some(Kind::Jmp),
-        (Technique::Plain, _) => true,
     }
 }
 

@@ -29,16 +29,21 @@ impl Program {
     // A word becomes another, here, at a target or at the end of code; or it and the next change places.
     fn damage_word(&mut self, target: usize, random: &mut Random) {
         let place = random.below(self.size.n);
-        match random.below(7) {
+        match random.below(9) {
             0 => self.change_field(place, random),
             1 => self.put_word(place, place as u64),
             2 => self.put_word(place, word(Kind::Jmp, 0, 0, 0, 0)),
             3 => self.put_word(place, word(Kind::St, 0, 5, 0, 0)),
-            4 => {
+            4 => self.put_word(place, word(Kind::Ret, 0, 0, 0, 0)),
+            5 => {
+                let routine = random.below(self.size.n);
+                self.put_word(place, word(Kind::Call, 0, 0, 0, low(routine)));
+            }
+            6 => {
                 let label = random.below(self.size.n);
                 self.put_word(target, label as u64);
             }
-            5 => {
+            7 => {
                 let after = place.wrapping_add(1);
                 let old = self.word(place);
                 let next = self.word(after);
@@ -81,10 +86,10 @@ impl Program {
     // A branch, of a guard or not, goes elsewhere, at times outside code.
     fn aim_branch(&mut self, random: &mut Random) {
         let n = self.size.n;
-        let kind = if random.once_in(4) {
-            Kind::Bgt
-        } else {
-            Kind::Jd
+        let kind = match random.below(4) {
+            0 => Kind::Bgt,
+            1 => Kind::Call,
+            _ => Kind::Jd,
         };
         let target = random.below(n.wrapping_add(n / 8).wrapping_add(2));
         if let Some(place) = self.some_word(kind, random) {
@@ -189,7 +194,7 @@ fn another(f: Fields, n: usize, random: &mut Random) -> Fields {
     let x = random.below(34) as u8;
     match random.below(10) {
         0 => Fields {
-            op: random.below(10) as u8,
+            op: random.below(12) as u8,
             ..f
         },
         1 => Fields { a: x, ..f },

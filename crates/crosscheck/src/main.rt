@@ -6,6 +6,7 @@ mod calls;
 mod codes;
 mod damage;
 mod edges;
+mod pending;
 mod plan;
 mod program;
 mod random;

@@ -8,6 +8,9 @@ use isa::Technique;
 pub(crate) enum Item {
     Straight,
     Branch,
+    Call,
+    // The ret of a routine.
+    Return,
     Last,
     // A word of a guard but its first.
     Inside,
@@ -18,6 +21,9 @@ pub(crate) enum Item {
     Jump(usize),
     Label(usize),
 }
+
+// How many words a routine has, with its ret.
+const ROUTINE: usize = 4;
 
 // The first n items are the plan, which grows one by one: there is no heap, and a slice does not grow.
 #[derive(Drop)]
@@ -41,7 +47,11 @@ impl Plan {
             // Every one comes up once.
             let strides = if items % 7 == 0 { k } else { k * 7 };
             let item = random_item((strides + start) % items, sets, random);
-            plan.push_guarded(technique, item);
+            if item == Item::Return {
+                plan.push_routine(random);
+            } else {
+                plan.push_guarded(technique, item);
+            }
         }
         plan.push(Item::Last);
         plan
@@ -72,6 +82,20 @@ impl Plan {
         }
     }
 
+    // A branch, which mostly leads elsewhere than into the routine; then its words, of which some are calls, and its ret.
+    fn push_routine(&mut self, random: &mut Random) {
+        self.push(Item::Branch);
+        for _ in 1..ROUTINE {
+            let item = if random.once_in(6) {
+                Item::Call
+            } else {
+                Item::Straight
+            };
+            self.push(item);
+        }
+        self.push(Item::Return);
+    }
+
     pub(crate) fn item(&self, address: usize) -> Item {
         self.items.get(address).copied().unwrap_or(Item::Straight)
     }
@@ -82,6 +106,15 @@ impl Plan {
             .rev()
             .find(|at| self.item(*at) != Item::Inside)
             .unwrap_or(0)
+    }
+
+    // One of the words of the first routine from a random place on, and round the end.
+    pub(crate) fn some_routine(&self, random: &mut Random) -> Option<usize> {
+        let start = random.below(self.n);
+        let end = (start..self.n)
+            .chain(0..start)
+            .find(|at| self.item(*at) == Item::Return)?;
+        Some(end.wrapping_sub(random.below(ROUTINE)))
     }
 
     pub(crate) fn lowest_label(&self, set: usize) -> usize {
@@ -117,11 +150,13 @@ fn random_item(k: usize, sets: usize, random: &mut Random) -> Item {
 // Where there is no set, there is neither a label nor a jump.
 fn other_item(sets: usize, random: &mut Random) -> Item {
     let set = random.below(sets);
-    match random.below(12) {
+    match random.below(16) {
         0 | 1 if sets > 0 => Item::Label(set),
         2 if sets > 0 => Item::Jump(set),
         3 | 4 => Item::Store,
         5 | 6 => Item::Branch,
+        7 | 8 => Item::Call,
+        9 | 10 => Item::Return,
         _ => Item::Straight,
     }
 }

@@ -1,5 +1,5 @@
-// The checker a second time, naive and direct: document 01, "Claimed graph", "Conditions" and "Numbers given", with K2 and K3 of
-// document 02, each condition by its own words, sets by nested loops over the edges and guards by comparing words.
+// The checker a second time, naive and direct: document 01, "Claimed graph", "Conditions" and "Numbers given", with K2, K3 and K8
+// of document 02, each condition by its own words, sets by nested loops over the edges and guards by comparing words.
 use crate::edges::pairs;
 use crate::sequences::{Guard, RANGE_TEST, after_first, before_jump_guard};
 use crate::words;
@@ -227,7 +227,9 @@ impl Code<'_> {
     // The target of a branch is outside code, or a word of a sequence but the first.
     fn branches_wrong(self, address: usize) -> bool {
         match self.kind(address) {
-            Some(Kind::Bgt | Kind::Jd) => self.target_wrong(self.branch_target(address)),
+            Some(Kind::Bgt | Kind::Jd | Kind::Call) => {
+                self.target_wrong(self.branch_target(address))
+            }
             _ => false,
         }
     }
@@ -245,18 +247,25 @@ impl Code<'_> {
         })
     }
 
-    // The graph: next is a successor of pc by the word there, or by a listed edge at a jmp.
+    // The graph: next is a successor of pc by the word there, by a listed edge at a jmp, or by the calls of the code at a ret.
     pub(crate) fn succeeds(self, pc: usize, next: usize) -> bool {
         let follows = next == pc.wrapping_add(1);
         let branched = next == self.branch_target(pc);
         let listed = match self.kind(pc) {
             None => false,
             Some(Kind::Jmp) => self.is_edge(pc, next),
-            Some(Kind::Jd) => branched,
+            Some(Kind::Jd | Kind::Call) => branched,
+            Some(Kind::Ret) => self.is_return(next),
             Some(Kind::Bgt) => follows || branched,
             Some(_) => follows,
         };
         pc < self.n && next < self.n && listed
+    }
+
+    // "ret's are the words after all calls": a call stands in code just before the address.
+    fn is_return(self, address: usize) -> bool {
+        let before = address.checked_sub(1);
+        before.is_some_and(|call| call < self.n && self.kind(call) == Some(Kind::Call))
     }
 }
 

@@ -30,9 +30,16 @@ pub(crate) struct Tally {
     pub(crate) jumps: Count,
     pub(crate) stores: Count,
     pub(crate) outside: Count,
+    pub(crate) calls: Count,
+    pub(crate) full_calls: Count,
+    pub(crate) returns: Count,
+    pub(crate) nested: Count,
+    pub(crate) astray: Count,
     pub(crate) code_changed: Count,
     pub(crate) stops: Count,
     pub(crate) fours: Count,
+    pub(crate) fives: Count,
+    pub(crate) sixes: Count,
     pub(crate) wrong_stops: Count,
     pub(crate) runs: Count,
     pub(crate) wrong_runs: Count,
@@ -53,9 +60,16 @@ impl Tally {
             jumps: none,
             stores: none,
             outside: none,
+            calls: none,
+            full_calls: none,
+            returns: none,
+            nested: none,
+            astray: none,
             code_changed: none,
             stops: none,
             fours: none,
+            fives: none,
+            sixes: none,
             wrong_stops: none,
             runs: none,
             wrong_runs: none,
@@ -86,7 +100,15 @@ impl fmt::Display for Tally {
             self.stores, self.outside
         )?;
         writeln!(f, "code changed {}", self.code_changed)?;
-        write!(f, "stops {} ({} of them 4), ", self.stops, self.fours)?;
+        write!(
+            f,
+            "steps by call {}, with the stack full {}, ",
+            self.calls, self.full_calls
+        )?;
+        write!(f, "by ret {} (nested {}), ", self.returns, self.nested)?;
+        writeln!(f, "not to the word after the latest call {}", self.astray)?;
+        write!(f, "stops {} ({} of them 4, ", self.stops, self.fours)?;
+        write!(f, "{} 5, {} 6), ", self.fives, self.sixes)?;
         writeln!(f, "of a wrong number {}", self.wrong_stops)?;
         writeln!(
             f,

@@ -1,4 +1,4 @@
-// Instruction words a second time (document 01, "Words and memory").
+// Instruction words a second time (document 01, "Words and memory", with K8 of document 02).
 
 // The opcodes.
 #[derive(Clone, Copy, PartialEq, Eq)]
@@ -12,6 +12,8 @@ pub(crate) enum Kind {
     Jmp = 6,
     Ld = 7,
     St = 8,
+    Call = 9,
+    Ret = 10,
 }
 
 impl Kind {
@@ -26,6 +28,8 @@ impl Kind {
             6 => Some(Self::Jmp),
             7 => Some(Self::Ld),
             8 => Some(Self::St),
+            9 => Some(Self::Call),
+            10 => Some(Self::Ret),
             _ => None,
         }
     }
@@ -66,11 +70,12 @@ impl Fields {
     // The fields are those of an exact form of this kind.
     fn exact(self, kind: Kind) -> bool {
         match kind {
-            Kind::Label | Kind::Jd => self.within(0, 0, 0, u32::MAX),
+            Kind::Label | Kind::Jd | Kind::Call => self.within(0, 0, 0, u32::MAX),
             Kind::Add => self.within(31, 31, 31, 0),
             Kind::Addi | Kind::Bgt | Kind::Ld | Kind::St => self.within(31, 31, 0, u32::MAX),
             Kind::Movi => self.within(31, 0, 0, u32::MAX),
             Kind::Jmp => self.within(31, 0, 0, 0),
+            Kind::Ret => self.within(0, 0, 0, 0),
         }
     }
 }

@@ -2,3 +2,4 @@ pub mod Edges
 pub mod Owners
 pub mod Labels
 pub mod Apart
+pub mod Returns

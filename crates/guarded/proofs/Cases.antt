@@ -2,7 +2,7 @@
 -- branches are named in one law, `branch_cases`.
 use Prim.Native.Nat.{ℕ, ◌^◌, ◌<◌}
 use mathlib.Core.Path.{◌≡◌, refl, sym, ap, subst, ◌∙◌}
-use mathlib.Core.Bool.{Bool, true, false, cond, ◌&&◌, ◌||◌}
+use mathlib.Core.Bool.{Bool, true, false, cond, ◌&&◌}
 use Rattle.std.specs.Prelude.{None, Some}
 use native.Mathlib.Omega.{arith}
 use borrow.Author.Tests.{eqb-true}
@@ -38,19 +38,21 @@ module _ {A : Type 0} (t : Technique) (i : Instr) (x y z : A) where
 
 -- ---- branches
 
-branch_cases : (P : Instr → Type 0) → ((rs rt w : ℕ) → P (Instr.Bgt rs rt w)) → ((w : ℕ) → P (Instr.Jd w))
+branch_cases : (P : Instr → Type 0) → ((rs rt w : ℕ) → P (Instr.Bgt rs rt w)) → ((w : ℕ) → P (Instr.Jd w)) → ((w : ℕ) → P (Instr.Call w))
     → (i : Instr) → is_branch i ≡ true → P i
-branch_cases P bgt jd i e = go (is_kind Kind.Bgt i) refl
+branch_cases P bgt jd call i e = go (is_kind Kind.Bgt i) (is_kind Kind.Jd i) refl refl
   where
-    go : (b : Bool) → is_kind Kind.Bgt i ≡ b → P i
-    go true q = subst P (sym (of_kind Kind.Bgt i q)) (bgt _ _ _)
-    go false q = subst P (sym (of_kind Kind.Jd i (sym (ap (λ (b : Bool). b || is_kind Kind.Jd i) q) ∙ e))) (jd _)
+    go : (b j : Bool) → is_kind Kind.Bgt i ≡ b → is_kind Kind.Jd i ≡ j → P i
+    go true j q r = subst P (sym (of_kind Kind.Bgt i q)) (bgt _ _ _)
+    go false true q r = subst P (sym (of_kind Kind.Jd i r)) (jd _)
+    go false false q r = subst P (sym (of_kind Kind.Call i (rw (q, r) at e))) (call _)
 
 pub branch_other : (t : Technique) (i : Instr) → is_branch i ≡ true → (is_jump i ≡ false) × ((guards_stores t && is_store i) ≡ false)
 branch_other t i e = (
-  branch_cases (λ j. is_jump j ≡ false) (λ _ _ _. refl) (λ _. refl) i e,
+  branch_cases (λ j. is_jump j ≡ false) (λ _ _ _. refl) (λ _. refl) (λ _. refl) i e,
   refuted _ (λ s.
-      true_false (and_right (guards_stores t) (is_store i) s) (branch_cases (λ j. is_store j ≡ false) (λ _ _ _. refl) (λ _. refl) i e)),
+      true_false (and_right (guards_stores t) (is_store i) s)
+      (branch_cases (λ j. is_store j ≡ false) (λ _ _ _. refl) (λ _. refl) (λ _. refl) i e)),
 )
 
 pub target_of_lem : (i : Instr) (w : ℕ) → branch_target i ≡ Some w → (is_branch i ≡ true) × ((fields_of i).w ≡ w)
@@ -71,4 +73,5 @@ moves word w e l =
     branch_cases (λ i. Registers i → Moves i w)
     (λ rs rt v r. record { back = round_trips.instruction_back (Instr.Bgt rs rt w) r l; kind = refl; target = refl })
     (λ v r. record { back = round_trips.instruction_back (Instr.Jd w) r l; kind = refl; target = refl })
+    (λ v r. record { back = round_trips.instruction_back (Instr.Call w) r l; kind = refl; target = refl })
     (decode_of word) e (decode_registers word)

@@ -16,6 +16,8 @@ rewrites_shown =
       post_rewritten = refl;
       plain_rewritten = refl;
       guarded_rewritten = refl;
+      call_rewritten = refl;
       post_passes = refl;
       store_passes = refl;
+      call_passes = refl;
     }

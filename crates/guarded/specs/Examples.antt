@@ -1,4 +1,4 @@
--- The rewriter's definitions on two programs, by computation.
+-- The rewriter's definitions on three programs, by computation.
 use Rattle.std.specs.Prelude.{ℕ, ◌≡◌, List, [], ◌∷◌, map, Ok}
 use Rattle.isa.specs.declared.Instr.{Instr}
 use Rattle.isa.specs.declared.Technique.{Technique}
@@ -96,10 +96,41 @@ guarded =
       entries = 0 ∷ 7 ∷ 8 ∷ 10 ∷ [];
     }
 
+-- a call of the ret at 3, which comes back to the jmp at 1, and so to the first word of its guard
+abbrev pub bare_call : List ℕ
+bare_call = map encode_of (Instr.Call 3 ∷ Instr.Jmp 5 ∷ Instr.Illegal ∷ Instr.Ret ∷ [])
+
+abbrev pub call_edges : List ℕ
+call_edges = 1 ∷ 2 ∷ []
+
+-- the call has the new address of the ret, which is kept
+abbrev pub called : Guarded
+called =
+    record {
+      code =
+          map encode_of
+          (Instr.Call 9
+          ∷ Instr.Addi 0 5 0
+          ∷ Instr.Ld 1 0 0
+          ∷ Instr.Movi 2 7
+          ∷ Instr.Bgt 1 2 10
+          ∷ Instr.Bgt 2 1 10
+          ∷ Instr.Jmp 0
+          ∷ Instr.Label 7
+          ∷ Instr.Illegal
+          ∷ Instr.Ret
+          ∷ Instr.Illegal
+          ∷ []);
+      edges = 6 ∷ 7 ∷ [];
+      entries = 0 ∷ 1 ∷ 7 ∷ 9 ∷ [];
+    }
+
 pub record RewritesShown : Type 0 where
   pub post_rewritten : rewrite_of Technique.Plain bare 3 edges 0 ≡ post
   pub plain_rewritten : rewrite_of Technique.Plain bare_store 4 store_edges 1 ≡ plain
   pub guarded_rewritten : rewrite_of Technique.MemoryGuards bare_store 4 store_edges 1 ≡ guarded
-  -- and both may be rewritten, so the theorems speak of them
+  pub call_rewritten : rewrite_of Technique.Plain bare_call 4 call_edges 0 ≡ called
+  -- and all may be rewritten, so the theorems speak of them
   pub post_passes : bare_verdict_of Technique.Plain bare 3 edges ≡ Ok tt
   pub store_passes : bare_verdict_of Technique.Plain bare_store 4 store_edges ≡ Ok tt
+  pub call_passes : bare_verdict_of Technique.Plain bare_call 4 call_edges ≡ Ok tt

@@ -1,6 +1,6 @@
--- What is known of r0 where a guard ends: its words replayed on r0, r1 and r2 from any values. And no word of a guard is a label.
+-- What is known of r0 where a guard ends: its words replayed on r0, r1 and r2 from any values. And no word of a guard is a label or a call.
 use Prim.Native.Nat.{ℕ, zero, suc, ◌+◌, ◌-◌, ◌≤◌, ◌<◌}
-use mathlib.Core.Path.{◌≡◌, refl, sym, ap, subst}
+use mathlib.Core.Path.{◌≡◌, refl, sym, ap, subst, ◌∙◌}
 use mathlib.Core.Bool.{Bool, true, not, ◌&&◌}
 use mathlib.Core.List.{List, [], ◌∷◌}
 use native.Mathlib.Omega.{arith}
@@ -89,28 +89,28 @@ store_known memory n b m e f =
     let same : r.0 ≡ get_or m 0 0 = ap (λ (l : List ℕ). get_or l 0 0) g.2 in
     (omega (arith, g.0), omega (arith, g.1))
 
--- no word of a guard is a label
-abbrev pub no_label : List Slot → Bool
-no_label [] = true
-no_label (s ∷ slots) = not (is_kind Kind.Label s.instr) && no_label slots
+-- no word of a guard is of this kind
+abbrev pub lacks : Kind → List Slot → Bool
+lacks kind [] = true
+lacks kind (s ∷ slots) = not (is_kind kind s.instr) && lacks kind slots
 
-pub jump_no_label : (t : Technique) (n id : ℕ) → no_label (jump_guard t n id) ≡ true
-jump_no_label Technique.Plain n id = refl
-jump_no_label Technique.MemoryGuards n id = refl
+-- none is a label, and none a call
+pub jump_lacks : (t : Technique) (n id : ℕ) → (lacks Kind.Label (jump_guard t n id) ≡ true) × (lacks Kind.Call (jump_guard t n id) ≡ true)
+jump_lacks Technique.Plain n id = (refl, refl)
+jump_lacks Technique.MemoryGuards n id = (refl, refl)
 
-pub store_no_label : (n len : ℕ) → no_label (store_guard n len) ≡ true
-store_no_label n len = refl
+pub store_lacks : (n len : ℕ) → (lacks Kind.Label (store_guard n len) ≡ true) × (lacks Kind.Call (store_guard n len) ≡ true)
+store_lacks n len = (refl, refl)
 
-slot_no_label : (slots : List Slot) → no_label slots ≡ true → (k : ℕ) → k < length slots → (w : ℕ)
-    → fits (get_or slots k (just Instr.Illegal)) (Instr.Label w) ≡ true → ⊥
+slot_lacks : (kind : Kind) (slots : List Slot) → lacks kind slots ≡ true → (k : ℕ) → k < length slots → (i : Instr)
+    → fits (get_or slots k (just Instr.Illegal)) i ≡ true → is_kind kind i ≡ true → ⊥
 unfolding fits
-slot_no_label [] e k h w f = omega arith
-slot_no_label (s ∷ slots) e zero h w f =
-    let label : is_kind Kind.Label s.instr ≡ true = ap (same_kind Kind.Label) (agrees (fields_of s.instr) (fields_of (Instr.Label w)) _ _ f).kind in
-    true_false label (not-true _ (and_left (not (is_kind Kind.Label s.instr)) _ e))
-slot_no_label (s ∷ slots) e (suc k) h w f =
-    slot_no_label slots (and_right (not (is_kind Kind.Label s.instr)) _ e) k (omega arith) w f
+slot_lacks kind [] e k h i f q = omega arith
+slot_lacks kind (s ∷ slots) e zero h i f q =
+    let same : (fields_of s.instr).kind ≡ (fields_of i).kind = (agrees (fields_of s.instr) (fields_of i) _ _ f).kind in
+    true_false (ap (same_kind kind) same ∙ q) (not-true _ (and_left (not (is_kind kind s.instr)) _ e))
+slot_lacks kind (s ∷ slots) e (suc k) h i f q = slot_lacks kind slots (and_right (not (is_kind kind s.instr)) _ e) k (omega arith) i f q
 
-pub word_no_label : (memory : List ℕ) (b : ℕ) (slots : List Slot) → stands_at memory b slots ≡ true → no_label slots ≡ true
-    → (k : ℕ) → k < length slots → (w : ℕ) → instr_at memory (b + k) ≡ Instr.Label w → ⊥
-word_no_label memory b slots stands none k h w e = slot_no_label slots none k h w (rw e at (slot_fits memory b slots stands k h))
+pub word_lacks : (kind : Kind) (memory : List ℕ) (b : ℕ) (slots : List Slot) → stands_at memory b slots ≡ true → lacks kind slots ≡ true
+    → (k : ℕ) → k < length slots → is_kind kind (instr_at memory (b + k)) ≡ true → ⊥
+word_lacks kind memory b slots stands none k h q = slot_lacks kind slots none k h (instr_at memory (b + k)) (slot_fits memory b slots stands k h) q

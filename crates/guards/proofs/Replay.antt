@@ -39,6 +39,8 @@ Falls memory n (Instr.Jmp rs) after l = after l
 Falls memory n (Instr.Ld rd rs w) after l =
     (v : ℕ) × (rs < 3 → get_or l rs 0 + w < n → v ≡ get_or memory (get_or l rs 0 + w) 0) × after (set l rd v)
 Falls memory n (Instr.St rd rs w) after l = after l
+Falls memory n (Instr.Call w) after l = after l
+Falls memory n Instr.Ret after l = after l
 Falls memory n Instr.Illegal after l = after l
 
 falls_map : (memory : List ℕ) (n : ℕ) (P Q : List ℕ → Type 0) → ((l : List ℕ) → P l → Q l) → (i : Instr) (l : List ℕ)
@@ -52,6 +54,8 @@ falls_map memory n P Q f (Instr.Jd w) l h = f _ h
 falls_map memory n P Q f (Instr.Jmp rs) l h = f _ h
 falls_map memory n P Q f (Instr.Ld rd rs w) l h = (h.0, h.1, f _ h.2)
 falls_map memory n P Q f (Instr.St rd rs w) l h = f _ h
+falls_map memory n P Q f (Instr.Call w) l h = f _ h
+falls_map memory n P Q f Instr.Ret l h = f _ h
 falls_map memory n P Q f Instr.Illegal l h = f _ h
 
 -- falling through the words takes l to m

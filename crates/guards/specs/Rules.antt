@@ -36,7 +36,7 @@ inside_guard Technique.MemoryGuards memory n edges w =
     inside_store_guard memory n w || inside_jump_guard Technique.MemoryGuards memory n edges w
 
 -- "Targets of bgt and jd are in code", asked of plain code too since K2 (document 02): "Plain code must from now on keep those
--- targets in code, under 15, as with memory guards."; and none is such a word of a guard
+-- targets in code, under 15, as with memory guards."; and none is such a word of a guard. "Targets of call obey 15" (K8).
 abbrev pub target_wrong : Technique → List ℕ → ℕ → List ℕ → ℕ → Bool
 target_wrong t memory n edges w = leb n w || inside_guard t memory n edges w
 
@@ -44,6 +44,6 @@ abbrev pub target_wrong_if_any : Technique → List ℕ → ℕ → List ℕ →
 target_wrong_if_any t memory n edges None = false
 target_wrong_if_any t memory n edges (Some w) = target_wrong t memory n edges w
 
--- 15. "This bgt or jd breaks the target condition."
+-- 15. "This bgt or jd breaks the target condition.", or this call
 abbrev pub branch_wrong : Technique → List ℕ → ℕ → List ℕ → ℕ → Bool
 branch_wrong t memory n edges a = target_wrong_if_any t memory n edges (branch_target (instr_at memory a))

@@ -1,24 +1,27 @@
 -- What the invariant gives at a word of accepted code: falling through takes each guard one word further; at a jmp its guard has shown
--- that it finds the label of its set, so that it goes to a member; at a st its guard has shown that it goes to data.
+-- that it finds the label of its set, so that it goes to a member; at a st its guard has shown that it goes to data; the word after a
+-- call is in code.
 use Prim.Native.Nat.{ℕ, zero, suc, ◌+◌, ◌-◌, ◌^◌, ◌≤◌, ◌<◌}
 use mathlib.Core.Path.{◌≡◌, refl, sym, ap, subst, ◌∙◌}
 use mathlib.Core.Bool.{true}
 use mathlib.Core.List.{List}
 use native.Mathlib.Omega.{arith}
+use native.Mathlib.Decide.{dec_lt}
 use lib.Dec.{lit<}
 use lib.ListN.{length, get_or, take}
 use lib.Seq.{get_or-take}
 use borrow.Author.Tests.{ltb-true}
-use Rattle.lists.proofs.Bools.{clash, and_left}
+use Rattle.lists.proofs.Bools.{clash, and_left, true_false}
 use Rattle.answers.proofs.Shape.{Shaped, shaped}
 use Rattle.isa.specs.declared.Instr.{Instr}
 use Rattle.isa.specs.declared.Technique.{Technique}
 use Rattle.isa.specs.Words.{decode_of}
-use Rattle.isa.specs.Instructions.{instr_at}
+use Rattle.isa.specs.Instructions.{instr_at, is_call}
 use Rattle.isa.proofs.Words.{round_trips}
 use Rattle.addresses.specs.Addresses.{address_of}
 use Rattle.machine.specs.Steps.{next_allowed, reg_of}
-use Rattle.graph.specs.Claim.{id_of}
+use Rattle.graph.specs.Claim.{id_of, is_return}
+use Rattle.graph.proofs.Returns.{after_call}
 use Rattle.guards.specs.declared.Slot.{Slot}
 use Rattle.guards.specs.Sequences.{jump_guard, store_guard}
 use Rattle.guards.proofs.Replay.{view, Falls, Fallen, fallen_none, fallen_more}
@@ -60,6 +63,18 @@ module _ (t : Technique) (memory : List ℕ) (n : ℕ) (edges : List ℕ) (ok : 
 
   pub sizes : Shaped (length memory) n
   sizes = shaped (length memory) n (and_left _ _ ok.shape)
+
+  -- the last word is illegal, and so no call
+  pub return_in : (q : ℕ) → is_return memory n q ≡ true → q < n
+  return_in q e = go (dec_lt q n)
+    where
+      go : Dec (q < n) → q < n
+      go (yes h) = h
+      go (no h) =
+          let r = after_call memory n q e in
+          let last : n - 1 ≡ r.call = omega (arith, r.in_code, r.next) in
+          absurd
+          (true_false r.calls (ap (λ (a : ℕ). is_call (instr_at memory a)) (sym last) ∙ ap is_call ok.instrumented.last_illegal))
 
   fallen_here : (a : ℕ) (slots : List Slot) → a < n → Guard t memory n edges a slots → (e : EndsWith memory slots a) (k : ℕ)
       → k < length slots → pc ≡ e.first + k → Fallen memory n e.first k (view regs)

@@ -3,4 +3,5 @@ pub mod Inside
 pub mod Keeps
 pub mod Steps
 pub mod Demand
+pub mod Home
 pub mod Shown

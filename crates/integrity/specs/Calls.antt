@@ -1,11 +1,10 @@
 -- Lists of calls (document 01, "Lists of calls"): what each call leaves, by the very definitions that the contracts of `step`,
 -- `run`, `write_data` and `write_register` cite, and the trace of a list.
 use Rattle.std.specs.Prelude.{ℕ, zero, suc, cond, List, [], ◌∷◌, ◌++◌, length}
-use Rattle.answers.specs.Shape.{memory_shaped}
 use Rattle.isa.specs.declared.Technique.{Technique}
 use Rattle.machine.specs.declared.State.{State}
 use Rattle.machine.specs.Numbers.{Outcome}
-use Rattle.machine.specs.Steps.{step_of, step_memory}
+use Rattle.machine.specs.Steps.{step_shaped, step_of, step_memory}
 use Rattle.machine.specs.Runs.{if_made, run_of, run_memory}
 use Rattle.bus.specs.Bus.{write_data_memory, write_register_of}
 
@@ -56,7 +55,7 @@ module _ (t : Technique) (n : ℕ) where
   -- "A run stands for its steps one by one, and for the one it could not make where it answers a stop"; refused with 6 it tries none
   abbrev pub events_of : Call → Config → List Event
   events_of Call.Step c = tried_at c ∷ []
-  events_of (Call.Run limit) c = cond (memory_shaped (length c.memory) n) (steps_of limit c) []
+  events_of (Call.Run limit) c = cond (step_shaped (length c.memory) n c.state.depth) (steps_of limit c) []
   events_of (Call.WriteData address word) c = []
   events_of (Call.WriteRegister register word) c = []
 

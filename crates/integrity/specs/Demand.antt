@@ -1,13 +1,12 @@
 -- Demand 3 (document 01, "Lists of calls"), one statement over the whole list, and that a run's answer is that of its steps.
 use Rattle.std.specs.Prelude.{ℕ, ◌≡◌, true, ◌⊎◌, length, take, Ok, Err}
 use mathlib.Core.List.{List, ◌++◌, Memᴰ}
-use Rattle.answers.specs.Shape.{memory_shaped}
 use Rattle.isa.specs.declared.Technique.{Technique}
 use Rattle.isa.specs.Instructions.{instr_at, is_jump, is_load}
 use Rattle.machine.specs.declared.Stop.{Stop}
 use Rattle.machine.specs.declared.Halt.{Halt}
-use Rattle.machine.specs.Numbers.{Outcome, outcome_number}
-use Rattle.machine.specs.Steps.{state_of}
+use Rattle.machine.specs.Numbers.{Outcome, Number, outcome_number}
+use Rattle.machine.specs.Steps.{fresh_of, step_shaped}
 use Rattle.machine.specs.Runs.{run_of}
 use Rattle.graph.specs.Claim.{is_successor}
 use Rattle.checker.specs.Verdicts.{verdict_of}
@@ -15,17 +14,20 @@ use Rattle.integrity.specs.Calls.{Call, Config, config, Event, after_call, event
 
 -- "a fresh state, whatever its registers, and a memory of that code with any D data words after it"
 abbrev pub fresh : List ℕ → List ℕ → List ℕ → Config
-fresh registers code data_words = config (state_of registers 0) (code ++ data_words)
+fresh registers code data_words = config (fresh_of registers) (code ++ data_words)
 
 -- "all n code words are those checked"
 abbrev pub CodeSame : List ℕ → Config → Type 0
 CodeSame code c = take (length code) c.memory ≡ code
 
 -- "An accepted plain program then meets stop 4 at a jmp only" (document 02, K2); "with memory guards, every step in it that cannot
--- be made gives stop 2, or stop 3 with a load at the pc"
-abbrev pub StopAllowed : Technique → List ℕ → ℕ → ℕ → Type 0
-StopAllowed Technique.Plain code pc number = number ≡ 4 → is_jump (instr_at code pc) ≡ true
-StopAllowed Technique.MemoryGuards code pc number = (number ≡ 2) ⊎ ((number ≡ 3) × (is_load (instr_at code pc) ≡ true))
+-- be made gives stop 2, or stop 3 with a load at the pc", or 5 or 6: "a program may meet these two as well" (K8)
+abbrev pub StopAllowed : Technique → List ℕ → ℕ → Number → Type 0
+StopAllowed Technique.Plain code pc number = number ≡ Number.Stopped 4 → is_jump (instr_at code pc) ≡ true
+StopAllowed Technique.MemoryGuards code pc number =
+    (number ≡ Number.Stopped 2)
+    ⊎ (((number ≡ Number.Stopped 3) × (is_load (instr_at code pc) ≡ true))
+    ⊎ ((number ≡ Number.Stopped 5) ⊎ (number ≡ Number.Stopped 6)))
 
 -- what is claimed of a step tried
 pub record StepHeld (t : Technique) (code edges : List ℕ) (before : Config) (outcome : Outcome) (after : Config) : Type 0 where
@@ -66,7 +68,7 @@ StopFourAtJumps = OverAccepted Technique.Plain FourAtJump
 pub record RunAnswers (t : Technique) (n limit : ℕ) (c : Config) : Type 0 where
   pub count : steps_made (events_of t n (Call.Run limit) c) ≡ (run_of t n limit c.memory c.state).count
   pub left : left_by c (events_of t n (Call.Run limit) c) ≡ after_call t n (Call.Run limit) c
-  pub ending : memory_shaped (length c.memory) n ≡ true
+  pub ending : step_shaped (length c.memory) n c.state.depth ≡ true
       → ending_by (Ok tt) (events_of t n (Call.Run limit) c) ≡ (run_of t n limit c.memory c.state).ending
 
 abbrev pub RunIsItsSteps : Type 0

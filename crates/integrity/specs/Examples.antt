@@ -1,5 +1,6 @@
 -- Demand 3 says something: two accepted programs, one for each technique, and lists of calls over them whose steps and bus writes are
--- made, from any registers; and stop 4, where a branch may not meet it and where a jmp does.
+-- made, from any registers; stop 4, where a branch may not meet it and where a jmp does; a routine that is called from two places; and
+-- stops 5 and 6.
 use Rattle.std.specs.Prelude.{ℕ, zero, suc, ◌≡◌, List, [], ◌∷◌, ◌++◌, map, set, Ok, Err}
 use Rattle.answers.specs.declared.Refusal.{Refusal}
 use Rattle.answers.specs.declared.Place.{Place}
@@ -13,6 +14,7 @@ use Rattle.machine.specs.declared.Halt.{Halt}
 use Rattle.checker.specs.Verdicts.{verdict_of}
 use Rattle.integrity.specs.Calls.{Call, trace, steps_made, ending_by, after_all}
 use Rattle.integrity.specs.Demand.{fresh}
+use Rattle.integrity.specs.Home.{pending_from}
 
 -- a program with both memory guards, for one data word, at address 18: its st, at 5, stores r6 where r5 says; its jmp, at 15, goes
 -- to the label at 16, if r5 says so
@@ -76,3 +78,40 @@ pub record StopFourShown (r : ℕ → ℕ) : Type 0 where
       ending_by (Ok tt) (trace Technique.Plain 9 outward_calls (fresh (registers_from r 0 32) post_code (7 ∷ [])))
       ≡ Err (Halt.Stopped Stop.Next)
   pub stands_at_jump : (after_all Technique.Plain 9 outward_calls (fresh (registers_from r 0 32) post_code (7 ∷ []))).state.pc ≡ 6
+
+-- a routine at 3, called from 0 and from 1: it adds one to r5 and returns
+abbrev pub shared_routine : List ℕ
+shared_routine = map encode_of (Instr.Call 3 ∷ Instr.Call 3 ∷ Instr.Illegal ∷ Instr.Addi 5 5 1 ∷ Instr.Ret ∷ Instr.Illegal ∷ [])
+
+-- within the first call the bus writes to r5 and tries r1; then to the return; then on to the end
+abbrev pub first_calls : List Call
+first_calls = Call.Step ∷ Call.WriteRegister 5 4 ∷ Call.WriteRegister 1 4 ∷ Call.Run 2 ∷ []
+
+abbrev pub second_calls : List Call
+second_calls = first_calls ++ Call.WriteRegister 31 1 ∷ Call.Run 100 ∷ []
+
+-- What K8 is about, from registers r 0 to r 31: the routine is accepted, its first return leads to 1 and its second to 2, and in between
+-- the word after the first call is pending.
+pub record ReturnsShown (t : Technique) (r : ℕ → ℕ) : Type 0 where
+  pub accepted : verdict_of t shared_routine 6 [] ≡ Ok tt
+  pub pending : pending_from shared_routine [] (trace t 6 (Call.Step ∷ []) (fresh (registers_from r 0 32) shared_routine [])) ≡ 1 ∷ []
+  pub first_home : (after_all t 6 first_calls (fresh (registers_from r 0 32) shared_routine [])).state.pc ≡ 1
+  pub second_home : (after_all t 6 second_calls (fresh (registers_from r 0 32) shared_routine [])).state.pc ≡ 2
+  pub steps : steps_made (trace t 6 second_calls (fresh (registers_from r 0 32) shared_routine [])) ≡ 6
+  pub none_left : pending_from shared_routine [] (trace t 6 second_calls (fresh (registers_from r 0 32) shared_routine [])) ≡ []
+
+-- a call of itself, and a ret that nothing called: accepted, and with stop 5 after 128 steps and stop 6 after none
+abbrev pub calls_itself : List ℕ
+calls_itself = map encode_of (Instr.Call 0 ∷ Instr.Illegal ∷ [])
+
+abbrev pub only_returns : List ℕ
+only_returns = map encode_of (Instr.Ret ∷ Instr.Illegal ∷ [])
+
+pub record StackStopsShown (t : Technique) (r : ℕ → ℕ) : Type 0 where
+  pub full_accepted : verdict_of t calls_itself 2 [] ≡ Ok tt
+  pub full_steps : steps_made (trace t 2 (Call.Run 200 ∷ []) (fresh (registers_from r 0 32) calls_itself [])) ≡ 128
+  pub full :
+      ending_by (Ok tt) (trace t 2 (Call.Run 200 ∷ []) (fresh (registers_from r 0 32) calls_itself [])) ≡ Err (Halt.Stopped Stop.Full)
+  pub empty_accepted : verdict_of t only_returns 2 [] ≡ Ok tt
+  pub empty :
+      ending_by (Ok tt) (trace t 2 (Call.Run 200 ∷ []) (fresh (registers_from r 0 32) only_returns [])) ≡ Err (Halt.Stopped Stop.Empty)

@@ -1,7 +1,7 @@
 -- A word is an instruction of a kind exactly where its opcode is the kind's and its fields are the kind's exact form.
 use Prim.Native.Nat.{ℕ, ◌/◌, ◌%◌, ◌^◌}
 use mathlib.Core.Path.{◌≡◌, refl, sym, ap, ◌∙◌}
-use mathlib.Core.Bool.{Bool, true, false, not, cond, ◌&&◌, ◌||◌, and-false}
+use mathlib.Core.Bool.{Bool, true, false, not, cond, ◌&&◌, and-false}
 use Rattle.std.specs.Prelude.{None, Some}
 use borrow.Author.Tests.{eq-eqb, eqb-true, not-true}
 use lib.Dec.{eqb}
@@ -112,8 +112,9 @@ pub no_label : (i : Instr) → is_kind Kind.Label i ≡ false → label_number i
 no_label i h = rw h
 
 pub branch_low : (x : ℕ) → is_branch (decode_of x) ≡ true → branch_target (decode_of x) ≡ Some (x % 2 ^ 32)
-branch_low x h = go (is_kind Kind.Bgt (decode_of x)) refl
+branch_low x h = go (is_kind Kind.Bgt (decode_of x)) (is_kind Kind.Jd (decode_of x)) refl refl
   where
-    go : (b : Bool) → is_kind Kind.Bgt (decode_of x) ≡ b → branch_target (decode_of x) ≡ Some (x % 2 ^ 32)
-    go true e = ap branch_target (kind_decode Kind.Bgt refl x e)
-    go false e = ap branch_target (kind_decode Kind.Jd refl x (sym (ap (λ (b : Bool). b || is_kind Kind.Jd (decode_of x)) e) ∙ h))
+    go : (b j : Bool) → is_kind Kind.Bgt (decode_of x) ≡ b → is_kind Kind.Jd (decode_of x) ≡ j → branch_target (decode_of x) ≡ Some (x % 2 ^ 32)
+    go true j e f = ap branch_target (kind_decode Kind.Bgt refl x e)
+    go false true e f = ap branch_target (kind_decode Kind.Jd refl x f)
+    go false false e f = ap branch_target (kind_decode Kind.Call refl x (rw (e, f) at h))

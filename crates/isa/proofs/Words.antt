@@ -53,6 +53,8 @@ kind_opcode Kind.Jd = refl
 kind_opcode Kind.Jmp = refl
 kind_opcode Kind.Ld = refl
 kind_opcode Kind.St = refl
+kind_opcode Kind.Call = refl
+kind_opcode Kind.Ret = refl
 kind_opcode Kind.Unknown = refl
 
 opcode_small : (k : Kind) → opcode_of k < 256
@@ -67,6 +69,8 @@ opcode_small k =
       | Kind.Jmp ↦ omega arith
       | Kind.Ld ↦ omega arith
       | Kind.St ↦ omega arith
+      | Kind.Call ↦ omega arith
+      | Kind.Ret ↦ omega arith
       | Kind.Unknown ↦ omega arith
     ]
 
@@ -90,7 +94,9 @@ opcode_kind_lem op =
     (tested op 4 Kind.Bgt _ refl
     (tested op 5 Kind.Jd _ refl
     (tested op 6 Kind.Jmp _ refl
-    (tested op 7 Kind.Ld _ refl (tested op 8 Kind.St _ refl (λ h. clash (cc))))))))))
+    (tested op 7 Kind.Ld _ refl
+    (tested op 8 Kind.St _ refl
+    (tested op 9 Kind.Call _ refl (tested op 10 Kind.Ret _ refl (λ h. clash (cc))))))))))))
 
 -- the parts of a word and the word of its parts
 pub pack_split : (w : ℕ) → (k : Kind) → opcode_of k ≡ w / 2 ^ 56 → pack (fields_as k w) ≡ w
@@ -161,6 +167,8 @@ fields_instr Kind.Jd a b c w = refl
 fields_instr Kind.Jmp a b c w = refl
 fields_instr Kind.Ld a b c w = refl
 fields_instr Kind.St a b c w = refl
+fields_instr Kind.Call a b c w = refl
+fields_instr Kind.Ret a b c w = refl
 fields_instr Kind.Unknown a b c w = refl
 
 pub exact_back : (f : Fields) → exact f ≡ true → fields_of (instr_of f) ≡ f
@@ -184,6 +192,8 @@ instr_fields (Instr.Jd w) = refl
 instr_fields (Instr.Jmp s) = refl
 instr_fields (Instr.Ld d s w) = refl
 instr_fields (Instr.St d s w) = refl
+instr_fields (Instr.Call w) = refl
+instr_fields Instr.Ret = refl
 instr_fields Instr.Illegal = refl
 
 pub split_pack : (f : Fields) → exact f ≡ true → f.w < 2 ^ 32 → split (pack f) ≡ f
@@ -240,6 +250,8 @@ registers_exact (Instr.Jd w) r = inr refl
 registers_exact (Instr.Jmp s) r = inr (rw (lt-ltb s 32 r))
 registers_exact (Instr.Ld d s w) r = inr (rw (lt-ltb d 32 r.0, lt-ltb s 32 r.1))
 registers_exact (Instr.St d s w) r = inr (rw (lt-ltb d 32 r.0, lt-ltb s 32 r.1))
+registers_exact (Instr.Call w) r = inr refl
+registers_exact Instr.Ret r = inr refl
 registers_exact Instr.Illegal r = inl refl
 
 exact_registers : (i : Instr) → exact (fields_of i) ≡ true → Registers i
@@ -258,6 +270,8 @@ exact_registers (Instr.Ld d s w) h =
     let e = fit (fields_of (Instr.Ld d s w)) h in (ltb-true d 32 e.a_fits, ltb-true s 32 e.b_fits)
 exact_registers (Instr.St d s w) h =
     let e = fit (fields_of (Instr.St d s w)) h in (ltb-true d 32 e.a_fits, ltb-true s 32 e.b_fits)
+exact_registers (Instr.Call w) h = tt
+exact_registers Instr.Ret h = tt
 exact_registers Instr.Illegal h = tt
 
 -- what a word decodes to names registers below 32

@@ -20,6 +20,13 @@ is_illegal i = is_kind Kind.Unknown i
 abbrev pub is_jump : Instr → Bool
 is_jump i = is_kind Kind.Jmp i
 
+-- a call, and a return from one
+abbrev pub is_call : Instr → Bool
+is_call i = is_kind Kind.Call i
+
+abbrev pub is_ret : Instr → Bool
+is_ret i = is_kind Kind.Ret i
+
 -- a store
 abbrev pub is_store : Instr → Bool
 is_store i = is_kind Kind.St i
@@ -30,12 +37,12 @@ is_load i = is_kind Kind.Ld i
 
 -- a word with a branch target, its w
 abbrev pub is_branch : Instr → Bool
-is_branch i = is_kind Kind.Bgt i || is_kind Kind.Jd i
+is_branch i = is_kind Kind.Bgt i || (is_kind Kind.Jd i || is_call i)
 
 -- the number of a label
 abbrev pub label_number : Instr → Option ℕ
 label_number i = cond (is_kind Kind.Label i) (Some (fields_of i).w) None
 
--- the target of a bgt or a jd
+-- the target of a bgt, a jd or a call
 abbrev pub branch_target : Instr → Option ℕ
 branch_target i = cond (is_branch i) (Some (fields_of i).w) None

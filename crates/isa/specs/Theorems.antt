@@ -14,6 +14,8 @@ Registers (Instr.Jd w) = Unit {0}
 Registers (Instr.Jmp rs) = rs < 32
 Registers (Instr.Ld rd rs w) = (rd < 32) × (rs < 32)
 Registers (Instr.St rd rs w) = (rd < 32) × (rs < 32)
+Registers (Instr.Call w) = Unit {0}
+Registers Instr.Ret = Unit {0}
 Registers Instr.Illegal = Unit {0}
 
 pub record RoundTrips : Type 0 where

@@ -17,7 +17,9 @@ kind_of opcode =
     (cond (eqb opcode 5) Kind.Jd
     (cond (eqb opcode 6) Kind.Jmp
     (cond (eqb opcode 7) Kind.Ld
-    (cond (eqb opcode 8) Kind.St Kind.Unknown))))))))
+    (cond (eqb opcode 8) Kind.St
+    (cond (eqb opcode 9) Kind.Call
+    (cond (eqb opcode 10) Kind.Ret Kind.Unknown))))))))))
 
 -- Unknown has no opcode, so nothing of that kind is written; 255 stands for it where a kind is told by its number.
 abbrev pub opcode_of : Kind → ℕ
@@ -30,6 +32,8 @@ opcode_of Kind.Jd = 5
 opcode_of Kind.Jmp = 6
 opcode_of Kind.Ld = 7
 opcode_of Kind.St = 8
+opcode_of Kind.Call = 9
+opcode_of Kind.Ret = 10
 opcode_of Kind.Unknown = 255
 
 -- the two are one kind: each kind has a number of its own
@@ -50,6 +54,8 @@ named_by Kind.Jd = names false false false true
 named_by Kind.Jmp = names true false false false
 named_by Kind.Ld = names true true false true
 named_by Kind.St = names true true false true
+named_by Kind.Call = names false false false true
+named_by Kind.Ret = names false false false false
 named_by Kind.Unknown = names false false false false
 
 -- The third question: "Of a, b and c, one named below is a register, 0 to 31; whatever is not named, w too, is 0."
@@ -95,6 +101,8 @@ build Kind.Jd a b c w = Instr.Jd w
 build Kind.Jmp a b c w = Instr.Jmp a
 build Kind.Ld a b c w = Instr.Ld a b w
 build Kind.St a b c w = Instr.St a b w
+build Kind.Call a b c w = Instr.Call w
+build Kind.Ret a b c w = Instr.Ret
 build Kind.Unknown a b c w = Instr.Illegal
 
 abbrev pub instr_of : Fields → Instr
@@ -110,6 +118,8 @@ fields_of (Instr.Jd w) = fields Kind.Jd 0 0 0 w
 fields_of (Instr.Jmp rs) = fields Kind.Jmp rs 0 0 0
 fields_of (Instr.Ld rd rs w) = fields Kind.Ld rd rs 0 w
 fields_of (Instr.St rd rs w) = fields Kind.St rd rs 0 w
+fields_of (Instr.Call w) = fields Kind.Call 0 0 0 w
+fields_of Instr.Ret = fields Kind.Ret 0 0 0 0
 fields_of Instr.Illegal = fields Kind.Unknown 0 0 0 0
 
 -- "Illegal is written as the word with all bits set."

@@ -17,6 +17,8 @@ pub enum Instr {
     Jmp(u8),
     Ld(u8, u8, u32),
     St(u8, u8, u32),
+    Call(u32),
+    Ret,
     Illegal,
 }
 
@@ -32,6 +34,8 @@ pub enum Kind {
     Jmp,
     Ld,
     St,
+    Call,
+    Ret,
     Unknown,
 }
 
@@ -78,6 +82,8 @@ pub fn decode(word: u64) -> Instr
         Kind::Jmp => instr_if(f.fits(Kind::Jmp), Instr::Jmp(f.a)),
         Kind::Ld => instr_if(f.fits(Kind::Ld), Instr::Ld(f.a, f.b, f.w)),
         Kind::St => instr_if(f.fits(Kind::St), Instr::St(f.a, f.b, f.w)),
+        Kind::Call => instr_if(f.fits(Kind::Call), Instr::Call(f.w)),
+        Kind::Ret => instr_if(f.fits(Kind::Ret), Instr::Ret),
         Kind::Unknown => Instr::Illegal,
     }
 }
@@ -98,6 +104,8 @@ pub fn encode(i: Instr) -> u64
         Instr::Jmp(rs) => Fields::of(Kind::Jmp, rs, 0, 0, 0).word(),
         Instr::Ld(rd, rs, w) => Fields::of(Kind::Ld, rd, rs, 0, w).word(),
         Instr::St(rd, rs, w) => Fields::of(Kind::St, rd, rs, 0, w).word(),
+        Instr::Call(w) => Fields::of(Kind::Call, 0, 0, 0, w).word(),
+        Instr::Ret => Fields::of(Kind::Ret, 0, 0, 0, 0).word(),
         Instr::Illegal => u64::MAX,
     }
 }
@@ -118,6 +126,8 @@ pub fn encode_fields(opcode: u8, a: u8, b: u8, c: u8, w: u32) -> u64
         Kind::Jmp => Fields::of(Kind::Jmp, a, 0, 0, 0).word(),
         Kind::Ld => Fields::of(Kind::Ld, a, b, 0, w).word(),
         Kind::St => Fields::of(Kind::St, a, b, 0, w).word(),
+        Kind::Call => Fields::of(Kind::Call, 0, 0, 0, w).word(),
+        Kind::Ret => Fields::of(Kind::Ret, 0, 0, 0, 0).word(),
         Kind::Unknown => u64::MAX,
     }
 }
@@ -144,10 +154,10 @@ pub fn is_a(kind: Kind, word: u64) -> bool
 pub fn is_branch(word: u64) -> bool
     ensures { result ≡ is_branch (decode_of word) }
 {
-    is_a(Kind::Bgt, word) || is_a(Kind::Jd, word)
+    is_a(Kind::Bgt, word) || is_a(Kind::Jd, word) || is_a(Kind::Call, word)
 }
 
-// The target of a bgt or a jd, without decoding the rest of it.
+// The target of a bgt, a jd or a call, without decoding the rest of it.
 #[tactic(auto, using(crate::proofs::ByKind::branch_low))]
 pub fn branch_target(word: u64) -> Option<usize>
     ensures { result ≡ branch_target (decode_of word) }
@@ -208,6 +218,8 @@ impl From<u8> for Kind {
             6 => Kind::Jmp,
             7 => Kind::Ld,
             8 => Kind::St,
+            9 => Kind::Call,
+            10 => Kind::Ret,
             _ => Kind::Unknown,
         }
     }
@@ -227,6 +239,8 @@ impl From<Kind> for u8 {
             Kind::Jmp => 6,
             Kind::Ld => 7,
             Kind::St => 8,
+            Kind::Call => 9,
+            Kind::Ret => 10,
             Kind::Unknown => 255,
         }
     }
@@ -292,12 +306,12 @@ fn clear_of(kind: Kind) -> u64
     ensures { result ≡ clear_of (named_by kind) }
 {
     match kind {
-        Kind::Label | Kind::Jd => 0x00ff_ffff_0000_0000,
+        Kind::Label | Kind::Jd | Kind::Call => 0x00ff_ffff_0000_0000,
         Kind::Add => 0x00e0_e0e0_ffff_ffff,
         Kind::Addi | Kind::Bgt | Kind::Ld | Kind::St => 0x00e0_e0ff_0000_0000,
         Kind::Movi => 0x00e0_ffff_0000_0000,
         Kind::Jmp => 0x00e0_ffff_ffff_ffff,
-        Kind::Unknown => 0x00ff_ffff_ffff_ffff,
+        Kind::Ret | Kind::Unknown => 0x00ff_ffff_ffff_ffff,
     }
 }
 
@@ -318,12 +332,12 @@ fn named_by(kind: Kind) -> Named
     ensures { result ≡ named_by kind }
 {
     match kind {
-        Kind::Label | Kind::Jd => names(false, false, false, true),
+        Kind::Label | Kind::Jd | Kind::Call => names(false, false, false, true),
         Kind::Add => names(true, true, true, false),
         Kind::Addi | Kind::Bgt | Kind::Ld | Kind::St => names(true, true, false, true),
         Kind::Movi => names(true, false, false, true),
         Kind::Jmp => names(true, false, false, false),
-        Kind::Unknown => names(false, false, false, false),
+        Kind::Ret | Kind::Unknown => names(false, false, false, false),
     }
 }
 

@@ -1,13 +1,12 @@
 -- The bounded run (document 01, "Steps"): the figure steps one after another.
 use Rattle.std.specs.Prelude.{◌≡◌, ℕ, zero, suc, ◌+◌, cond, List, length, Ok, Err}
 use Rattle.answers.specs.declared.Refusal.{Refusal}
-use Rattle.answers.specs.Shape.{memory_shaped}
 use Rattle.isa.specs.declared.Technique.{Technique}
 use Rattle.machine.specs.declared.State.{State}
 use Rattle.machine.specs.declared.Halt.{Halt}
 use Rattle.machine.specs.declared.Ran.{Ran}
 use Rattle.machine.specs.Numbers.{Outcome}
-use Rattle.machine.specs.Steps.{step_of, step_memory}
+use Rattle.machine.specs.Steps.{step_shaped, step_of, step_memory}
 
 abbrev pub ran : State → Outcome → ℕ → Ran
 ran s ending count = record { state = s; ending = ending; count = count }
@@ -35,10 +34,10 @@ run_memory_from t n (suc k) m s =
 -- a call of `run`: 6, also at limit 0, or the run
 unfoldable pub run_of : Technique → ℕ → ℕ → List ℕ → State → Ran
 run_of t n limit m s =
-    cond (memory_shaped (length m) n) (run_from t n limit m s 0) (ran s (Err (Halt.Refused Refusal.Shape)) 0)
+    cond (step_shaped (length m) n s.depth) (run_from t n limit m s 0) (ran s (Err (Halt.Refused Refusal.Shape)) 0)
 
 unfoldable pub run_memory : Technique → ℕ → ℕ → List ℕ → State → List ℕ
-run_memory t n limit m s = cond (memory_shaped (length m) n) (run_memory_from t n limit m s) m
+run_memory t n limit m s = cond (step_shaped (length m) n s.depth) (run_memory_from t n limit m s) m
 
 -- the contract of `run`: its answer r, and the memory m' that it leaves
 pub record Runs (t : Technique) (n limit : ℕ) (m : List ℕ) (s : State) (r : Ran) (m' : List ℕ) : Type 0 where

@@ -1,6 +1,5 @@
 -- What is proved of steps and runs besides the contracts. `proofs/Theorems.antt` has the proofs.
 use Rattle.std.specs.Prelude.{◌≡◌, ℕ, suc, ◌+◌, ◌^◌, ◌<◌, ◌≤◌, true, List, length, ◌≢◌, Ok, Err}
-use Rattle.answers.specs.Shape.{memory_shaped}
 use Rattle.isa.specs.declared.Instr.{Instr}
 use Rattle.isa.specs.declared.Technique.{Technique}
 use Rattle.isa.specs.Instructions.{instr_at}
@@ -8,7 +7,7 @@ use Rattle.machine.specs.declared.State.{State}
 use Rattle.machine.specs.declared.Stop.{Stop}
 use Rattle.machine.specs.declared.Halt.{Halt}
 use Rattle.machine.specs.declared.Ran.{Ran}
-use Rattle.machine.specs.Steps.{fetch_end, reg_of, stepped, step_of, step_memory}
+use Rattle.machine.specs.Steps.{fetch_end, reg_of, step_shaped, stepped, step_of, step_memory}
 use Rattle.machine.specs.Runs.{ran, if_made, run_of, run_memory}
 
 abbrev pub one_more : Ran → Ran
@@ -24,11 +23,11 @@ module _ (t : Technique) (n : ℕ) (m : List ℕ) (s : State) where
   -- technique; the memory is then as it was.
   pub record PastTopStops : Type 0 where
     pub load :
-        memory_shaped (length m) n ≡ true → s.pc < fetch_end t n (length m) → (rd rs w : ℕ) → instr_at m s.pc ≡ Instr.Ld rd rs w
+        step_shaped (length m) n s.depth ≡ true → s.pc < fetch_end t n (length m) → (rd rs w : ℕ) → instr_at m s.pc ≡ Instr.Ld rd rs w
         → 2 ^ 64 ≤ reg_of s rs + w
         → step_of t n m s ≡ stepped s (Err (Halt.Stopped Stop.Access))
     pub store :
-        memory_shaped (length m) n ≡ true → s.pc < fetch_end t n (length m) → (rd rs w : ℕ) → instr_at m s.pc ≡ Instr.St rd rs w
+        step_shaped (length m) n s.depth ≡ true → s.pc < fetch_end t n (length m) → (rd rs w : ℕ) → instr_at m s.pc ≡ Instr.St rd rs w
         → 2 ^ 64 ≤ reg_of s rd + w
         → (step_of t n m s ≡ stepped s (Err (Halt.Stopped Stop.Access))) × (step_memory t n m s ≡ m)
 

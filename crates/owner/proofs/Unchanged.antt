@@ -15,13 +15,13 @@ use Rattle.owner.specs.Theorems.{RefusedReportsChangeNothing}
 report_unchanged :
     (report : Report) (figures place : List ℕ) (r : ℕ) (figures' place' : List ℕ) → ReportCall report figures place r figures' place'
     → (r ≡ 0 → ⊥) → figures' ≡ figures
-report_unchanged report figures place r figures' place' call refused = go (shorter figures 14 || shorter place 2) refl
+report_unchanged report figures place r figures' place' call refused = go (shorter figures 16 || shorter place 2) refl
   where
     by : (x : Report) → r ≡ answer_number x → figures' ≡ figures_after x figures → figures' ≡ figures
     by (Ok found) e f = absurd (refused e)
     by (Err x) e f = f
 
-    go : (b : Bool) → (shorter figures 14 || shorter place 2) ≡ b → figures' ≡ figures
+    go : (b : Bool) → (shorter figures 16 || shorter place 2) ≡ b → figures' ≡ figures
     go true e = rw e at call.figures_after
     go false e = by report (rw e at call.answer) (rw e at call.figures_after)
 

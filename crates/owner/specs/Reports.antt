@@ -1,4 +1,4 @@
--- The calls for the site owner (document 02, K1): figures as 14 numbers, totals as 6.
+-- The calls for the site owner (document 02, K1): figures as 16 numbers, totals as 6.
 use Rattle.std.specs.Prelude.{ℕ, ◌^◌, ◌≡◌, Bool, cond, ◌&&◌, ◌||◌, List, [], ◌∷◌, ◌++◌, get_or, leb, ltb, eqb, Option, Some, None, Ok, Err}
 use Rattle.answers.specs.declared.Place.{Place}
 use Rattle.answers.specs.Numbers.{refusal_number}
@@ -24,11 +24,11 @@ figures_after (Err f) place = place
 
 -- the contract of `pg_report` and of `pg_report_parcel`: the answer r to this report, and the places that the call leaves
 pub record ReportCall (report : Report) (figures place : List ℕ) (r : ℕ) (figures' place' : List ℕ) : Type 0 where
-  pub answer : r ≡ cond (shorter figures 14 || shorter place 2) too_short (answer_number report)
+  pub answer : r ≡ cond (shorter figures 16 || shorter place 2) too_short (answer_number report)
   pub figures_after :
-      figures' ≡ cond (shorter figures 14 || shorter place 2) figures (figures_after report figures)
+      figures' ≡ cond (shorter figures 16 || shorter place 2) figures (figures_after report figures)
   pub place_after :
-      place' ≡ cond (shorter figures 14 || shorter place 2) place (put_over (place_numbers (answer_place report)) place)
+      place' ≡ cond (shorter figures 16 || shorter place 2) place (put_over (place_numbers (answer_place report)) place)
 
 -- the parcel with the largest freedom, its edges and its possible ones; 0, 0, 0 where there is none
 abbrev pub largest_numbers : Option Largest → List ℕ

@@ -60,7 +60,7 @@ pub fn pg_add_parcel(technique: u8, parcel: &[u8], sums: &mut [u64], place: &mut
 fn answer_report(report: Result<Figures, Fault>, figures: &mut [u64], place: &mut [u64]) -> u32
     ensures { ReportCall report figures.old place.old result figures.new place.new }
 {
-    if figures.len() < 14 || place.len() < 2 {
+    if figures.len() < 16 || place.len() < 2 {
         return too_short();
     }
     if let Ok(found) = report {
@@ -85,17 +85,17 @@ fn answer_addition(report: Result<Figures, Fault>, sums: &mut [u64], place: &mut
 }
 
 // The words of each kind, the target sets, the size of the largest, and the freedom's two numbers: 0 and 0 without jumps.
-fn figure_numbers(figures: Figures) -> [u64; 14]
+fn figure_numbers(figures: Figures) -> [u64; 16]
     ensures { result ≡ figure_numbers figures }
 {
     let freedom = figures.freedom.unwrap_or(Freedom {
         edges: 0,
         possible: 0,
     });
-    let mut numbers = [0; 14];
+    let mut numbers = [0; 16];
     put(&mut numbers, figures.kinds.map(u64::from));
     put(
-        &mut numbers[10..],
+        &mut numbers[12..],
         [
             u64::from(figures.sets),
             u64::from(figures.largest),

@@ -7,7 +7,8 @@ use Rattle.guarded.proofs.Theorems.{guards_put_in}
 use Rattle.guarded.proofs.Shown.{rewrites_shown}
 use Rattle.integrity.proofs.Demand.{demand_3, stop_four_at_jumps}
 use Rattle.integrity.proofs.Traversal.{run_is_its_steps}
-use Rattle.integrity.proofs.Shown.{programs_accepted, calls_made, stop_four_shown}
+use Rattle.integrity.proofs.Home.{returns_home}
+use Rattle.integrity.proofs.Shown.{programs_accepted, calls_made, stop_four_shown, returns_shown, stack_stops_shown}
 use Rattle.parcel.proofs.RoundTrips.{read_written, written_read}
 use Rattle.parcel.proofs.Calls.{written_where_rising, read_after_write, write_after_read}
 use Rattle.editions.proofs.Theorems.{two_editions}
@@ -21,6 +22,7 @@ use Rattle.report.proofs.Examples.{reports_shown}
 use Rattle.totals.proofs.Lists.{counted_exactly, totals_of_list}
 use Rattle.totals.proofs.Examples.{totals_shown}
 use Rattle.capi.proofs.Unchanged.{refused_changes_nothing}
+use Rattle.capi.proofs.Apart.{stops_apart}
 use Rattle.owner.proofs.Unchanged.{refused_reports_change_nothing}
 use Rattle.wide.proofs.Unchanged.{refused_wide_calls_change_nothing}
 use Rattle.installer.proofs.Unchanged.{refused_rewriting_changes_nothing}
@@ -62,5 +64,9 @@ kept =
       guards_put_in = guards_put_in;
       rewrites_shown = rewrites_shown;
       refused_rewriting_changes_nothing = refused_rewriting_changes_nothing;
+      returns_home = returns_home;
+      returns_shown = returns_shown;
+      stack_stops_shown = stack_stops_shown;
+      stops_apart = stops_apart;
       rows = table;
     }

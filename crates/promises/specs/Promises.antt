@@ -14,7 +14,8 @@ use Rattle.checker.specs.Examples.{OrderShown}
 use Rattle.guarded.specs.Theorems.{GuardsPutIn}
 use Rattle.guarded.specs.Examples.{RewritesShown}
 use Rattle.integrity.specs.Demand.{Demand3, StopFourAtJumps, RunIsItsSteps}
-use Rattle.integrity.specs.Examples.{ProgramsAccepted, CallsMade, StopFourShown}
+use Rattle.integrity.specs.Home.{ReturnsHome}
+use Rattle.integrity.specs.Examples.{ProgramsAccepted, CallsMade, StopFourShown, ReturnsShown, StackStopsShown}
 use Rattle.parcel.specs.Theorems.{ReadWritten, WrittenRead, WrittenWhereRising, ReadAfterWrite, WriteAfterRead}
 use Rattle.editions.specs.Theorems.{TwoEditions}
 use Rattle.line.specs.Theorems.{PrefixSuffices}
@@ -25,7 +26,7 @@ use Rattle.report.specs.Theorems.{KindsAddUp, EdgesAsListed}
 use Rattle.report.specs.Examples.{ReportsShown}
 use Rattle.totals.specs.Theorems.{CountedExactly, TotalsOfList}
 use Rattle.totals.specs.Examples.{TotalsShown}
-use Rattle.capi.specs.Theorems.{RefusedChangesNothing}
+use Rattle.capi.specs.Theorems.{RefusedChangesNothing, StopsApart}
 use Rattle.owner.specs.Theorems.{RefusedReportsChangeNothing}
 use Rattle.wide.specs.Theorems.{RefusedWideCallsChangeNothing}
 use Rattle.installer.specs.Theorems.{RefusedRewritingChangesNothing}
@@ -57,7 +58,7 @@ pub record Promises : Type 0 where
   pub refused_changes_nothing : RefusedChangesNothing
   -- For every list of steps, runs and bus writes over an accepted program: each step made is an edge of the claimed graph, the code
   -- words stay as checked, plain a step that gives stop 4 stands at a jmp, and with memory guards a step that cannot be made stands at an
-  -- illegal word or at a load outside memory.
+  -- illegal word or at a load outside memory, or finds the stack full or empty.
   pub demand_3 : Demand3
   -- That is about something: programs that are accepted, and calls over them that are made.
   pub programs_accepted : ProgramsAccepted
@@ -102,5 +103,13 @@ pub record Promises : Type 0 where
   pub rewrites_shown : RewritesShown
   -- A rewriting from C or Rust that is refused leaves code, edges, map and counts as they were.
   pub refused_rewriting_changes_nothing : RefusedRewritingChangesNothing
+  -- K8: over an accepted program, in every list of steps, runs and bus writes, each ret made goes to the word after the latest call not
+  -- yet returned from.
+  pub returns_home : ReturnsHome
+  -- That is about something: a routine that is called from two places, and programs that meet stops 5 and 6.
+  pub returns_shown : (t : Technique) (registers : ℕ → ℕ) → ReturnsShown t registers
+  pub stack_stops_shown : (t : Technique) (registers : ℕ → ℕ) → StackStopsShown t registers
+  -- What C and Rust get for these two stops is no number of a refusal.
+  pub stops_apart : StopsApart
   -- The starred rows of document 01.
   pub rows : Table

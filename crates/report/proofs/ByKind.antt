@@ -26,6 +26,8 @@ row_is f Kind.Jd = refl
 row_is f Kind.Jmp = refl
 row_is f Kind.Ld = refl
 row_is f Kind.St = refl
+row_is f Kind.Call = refl
+row_is f Kind.Ret = refl
 row_is f Kind.Unknown = refl
 
 -- one more at the kind k
@@ -42,6 +44,8 @@ row_more f Kind.Jd = refl
 row_more f Kind.Jmp = refl
 row_more f Kind.Ld = refl
 row_more f Kind.St = refl
+row_more f Kind.Call = refl
+row_more f Kind.Ret = refl
 row_more f Kind.Unknown = refl
 
 sum_more : (f : Kind → ℕ) (k : Kind) → sum (map (more f k) table_kinds) ≡ sum (map f table_kinds) + 1
@@ -55,6 +59,8 @@ sum_more f Kind.Jd = omega arith
 sum_more f Kind.Jmp = omega arith
 sum_more f Kind.Ld = omega arith
 sum_more f Kind.St = omega arith
+sum_more f Kind.Call = omega arith
+sum_more f Kind.Ret = omega arith
 sum_more f Kind.Unknown = omega arith
 
 map_same : (f g : Kind → ℕ) (xs : List Kind) → ((k : Kind) → f k ≡ g k) → map f xs ≡ map g xs
@@ -86,7 +92,15 @@ module _ (memory : List ℕ) where
   unfolding words_of_kind
   kind_max a k = count_max (λ x. is_kind k (instr_at memory x)) a
 
-  pub kinds_none : replicate 10 0 ≡ kinds_of memory 0
+  pub row_max : {kinds : List ℕ} {a : ℕ} (r : ℕ) → kinds ≡ kinds_of memory a → get_or kinds r 0 ≤ a
+  row_max {kinds} {a} r e = rw e (go table_kinds r)
+    where
+      go : (ks : List Kind) (r : ℕ) → get_or (map (words_of_kind memory a) ks) r 0 ≤ a
+      go [] r = omega arith
+      go (k ∷ ks) zero = kind_max a k
+      go (k ∷ ks) (suc r) = go ks r
+
+  pub kinds_none : replicate 12 0 ≡ kinds_of memory 0
   unfolding words_of_kind count
   kinds_none = refl
 

@@ -12,4 +12,4 @@ use Rattle.report.specs.Examples.{ReportsShown}
 
 pub reports_shown : ReportsShown
 unfolding decode_of word_of encode_of verdict_of first_broken lowest any count is_edge has_edge is_destination id_of fits stands_at ends_at inside_jump_guard inside_store_guard words_of_kind set_size sets_of highest total figures_of report_of
-reports_shown = record { post = refl; repeated = refl; shared = refl; turned = refl; refused = refl; halt = refl }
+reports_shown = record { post = refl; repeated = refl; shared = refl; turned = refl; refused = refl; returning = refl; halt = refl }

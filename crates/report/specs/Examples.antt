@@ -1,4 +1,5 @@
--- The definitions say something: reports on the post program, on two jumps that share a target set, and on a program without jumps.
+-- The definitions say something: reports on the post program, on two jumps that share a target set, on a call that returns, and on a
+-- program without jumps.
 -- `proofs/Examples.antt` has the proof.
 use Rattle.std.specs.Prelude.{ℕ, ◌≡◌, List, [], ◌∷◌, ◌++◌, map, None, Some, Ok, Err}
 use Rattle.answers.specs.declared.Refusal.{Refusal}
@@ -16,7 +17,7 @@ use Rattle.report.specs.Reports.{report_of}
 abbrev pub post_figures : Figures
 post_figures =
     record {
-      kinds = 1 ∷ 0 ∷ 1 ∷ 2 ∷ 2 ∷ 0 ∷ 1 ∷ 1 ∷ 0 ∷ 1 ∷ [];
+      kinds = 1 ∷ 0 ∷ 1 ∷ 2 ∷ 2 ∷ 0 ∷ 1 ∷ 1 ∷ 0 ∷ 0 ∷ 0 ∷ 1 ∷ [];
       sets = 1;
       largest = 1;
       freedom = Some (freedom 1 9);
@@ -34,17 +35,31 @@ shared_code =
 abbrev pub shared_figures : Figures
 shared_figures =
     record {
-      kinds = 1 ∷ 0 ∷ 2 ∷ 2 ∷ 4 ∷ 0 ∷ 2 ∷ 2 ∷ 0 ∷ 1 ∷ [];
+      kinds = 1 ∷ 0 ∷ 2 ∷ 2 ∷ 4 ∷ 0 ∷ 2 ∷ 2 ∷ 0 ∷ 0 ∷ 0 ∷ 1 ∷ [];
       sets = 1;
       largest = 1;
       freedom = Some (freedom 2 28);
+    }
+
+-- a call of the ret at 2, which returns to the illegal word at 1
+abbrev pub returning_code : List ℕ
+returning_code = map encode_of (Instr.Call 2 ∷ Instr.Illegal ∷ Instr.Ret ∷ Instr.Illegal ∷ [])
+
+-- one call and one ret after the other kinds, and two illegal words last
+abbrev pub returning_figures : Figures
+returning_figures =
+    record {
+      kinds = 0 ∷ 0 ∷ 0 ∷ 0 ∷ 0 ∷ 0 ∷ 0 ∷ 0 ∷ 0 ∷ 1 ∷ 1 ∷ 2 ∷ [];
+      sets = 0;
+      largest = 0;
+      freedom = None;
     }
 
 -- one illegal word
 abbrev pub halt_figures : Figures
 halt_figures =
     record {
-      kinds = 0 ∷ 0 ∷ 0 ∷ 0 ∷ 0 ∷ 0 ∷ 0 ∷ 0 ∷ 0 ∷ 1 ∷ [];
+      kinds = 0 ∷ 0 ∷ 0 ∷ 0 ∷ 0 ∷ 0 ∷ 0 ∷ 0 ∷ 0 ∷ 0 ∷ 0 ∷ 1 ∷ [];
       sets = 0;
       largest = 0;
       freedom = None;
@@ -60,5 +75,6 @@ pub record ReportsShown : Type 0 where
   pub turned : report_of Technique.Plain shared_code 14 (11 ∷ 12 ∷ 5 ∷ 12 ∷ []) ≡ Err (fault Refusal.EdgeNotRising (Place.Edge 1))
   -- the post program with memory guards is refused: 14 at 6
   pub refused : report_of Technique.MemoryGuards post_code 9 post_edges ≡ Err (fault Refusal.JumpUnguarded (Place.Address 6))
-  -- no jumps
+  -- no jumps, with call and ret and without
+  pub returning : report_of Technique.Plain returning_code 4 [] ≡ Ok returning_figures
   pub halt : report_of Technique.Plain (0xffffffffffffffff ∷ []) 1 [] ≡ Ok halt_figures

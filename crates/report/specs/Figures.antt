@@ -8,10 +8,11 @@ use Rattle.graph.specs.Rules.{sets_differ}
 use Rattle.report.specs.declared.Freedom.{Freedom}
 use Rattle.report.specs.declared.Figures.{Figures}
 
--- the sequence of document 01's table, and then the kind of an illegal word
+-- the sequence of document 01's table, the kinds that were added to it (document 02, K8), and then the kind of an illegal word
 abbrev pub table_kinds : List Kind
 table_kinds =
-    Kind.Label ∷ Kind.Add ∷ Kind.Addi ∷ Kind.Movi ∷ Kind.Bgt ∷ Kind.Jd ∷ Kind.Jmp ∷ Kind.Ld ∷ Kind.St ∷ Kind.Unknown ∷ []
+    Kind.Label ∷ Kind.Add ∷ Kind.Addi ∷ Kind.Movi ∷ Kind.Bgt ∷ Kind.Jd ∷ Kind.Jmp ∷ Kind.Ld ∷ Kind.St ∷ Kind.Call ∷ Kind.Ret
+    ∷ Kind.Unknown ∷ []
 
 -- "how many words of each kind, illegal included"
 unfoldable pub words_of_kind : List ℕ → ℕ → Kind → ℕ

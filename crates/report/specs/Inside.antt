@@ -12,7 +12,7 @@ use Rattle.report.specs.Figures.{words_of_kind, kinds_of, highest, freedom_by}
 
 -- a kind's place in `table_kinds`: its opcode, illegal words last
 abbrev pub row_of : Kind → ℕ
-row_of kind = min (opcode_of kind) 9
+row_of kind = min (opcode_of kind) 11
 
 -- the number, or n where there is none
 abbrev pub number_or : ℕ → Option ℕ → ℕ

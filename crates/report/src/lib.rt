@@ -21,7 +21,7 @@ pub struct Freedom {
 // the freedom, unless there are no jumps.
 #[derive(Clone, Copy, Debug, PartialEq, Eq)]
 pub struct Figures {
-    pub kinds: [u16; 10],
+    pub kinds: [u16; 12],
     pub sets: u16,
     pub largest: u16,
     pub freedom: Option<Freedom>,

@@ -48,11 +48,11 @@ impl Code<'_> {
 
     // Counts the words by their kinds, the labels by their numbers, and the jumps by the IDs of their sets.
     #[tactic(auto, using(crate::proofs::ByKind::kinds_none, crate::proofs::Sums::times_none))]
-    fn count_words(&self, labels: &mut [u16], jumps: &mut [u16]) -> [u16; 10]
+    fn count_words(&self, labels: &mut [u16], jumps: &mut [u16]) -> [u16; 12]
         requires { Tally labels.old self.now.n (λ _. 0) × Tally jumps.old self.now.n (λ _. 0) }
         ensures { Counted self.now.memory.now self.now.n self.now.n result labels.new jumps.new }
     {
-        let mut kinds = [0u16; 10];
+        let mut kinds = [0u16; 12];
         for a in 0..self.n {
             self.count_kind(&mut kinds, a);
             count_one(labels, label_number(self.memory[a]));
@@ -62,13 +62,13 @@ impl Code<'_> {
     }
 
     // Counts the word at a, after those before it: an opcode is its kind's place, and illegal words are last.
-    #[tactic(auto, using(crate::proofs::ByKind::kind_max, crate::proofs::ByKind::kinds_step))]
-    fn count_kind(&self, kinds: &mut [u16; 10], a: usize)
+    #[tactic(auto, using(crate::proofs::ByKind::row_max, crate::proofs::ByKind::kinds_step))]
+    fn count_kind(&self, kinds: &mut [u16; 12], a: usize)
         requires { (a < self.now.n) × (kinds.old ≡ kinds_of self.now.memory.now a) }
         ensures { kinds.new ≡ kinds_of self.now.memory.now (a + 1) }
     {
         let opcode = u8::from(kind_of_word(self.memory[a]));
-        kinds[usize::from(opcode.min(9))] += 1;
+        kinds[usize::from(opcode.min(11))] += 1;
     }
 
     // The ID of the set of the jump at j, by its guard, if a jump is there.

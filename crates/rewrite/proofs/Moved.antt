@@ -1,7 +1,7 @@
 -- Words made from words: a branch with another target, over any kind whose w is named; the first word of a guard with a register in it.
 use Prim.Native.Nat.{ℕ, ◌+◌, ◌-◌, ◌*◌, ◌/◌, ◌%◌, ◌^◌, ◌<◌}
 use mathlib.Core.Path.{◌≡◌, refl, sym, ap, ◌∙◌}
-use mathlib.Core.Bool.{Bool, true, false, ◌||◌}
+use mathlib.Core.Bool.{Bool, true, false}
 use mathlib.Core.List.{List, [], ◌∷◌, map}
 use native.Mathlib.Omega.{arith}
 use lib.ListN.{get_or}
@@ -41,11 +41,13 @@ module _ (k : Kind) (hk : known k ≡ true) (named : (named_by k).w ≡ true) (x
       q ∙ sym (ap (λ (f : Fields). encode_of (instr_of (fields f.kind f.a f.b f.c w))) i ∙ exact_word other other_exact)
 
 pub branch_moved : (x w : ℕ) → is_branch (decode_of x) ≡ true → x - x % 2 ^ 32 + w ≡ encode_of (with_target (decode_of x) w)
-branch_moved x w h = go (is_kind Kind.Bgt (decode_of x)) refl
+branch_moved x w h = go (is_kind Kind.Bgt (decode_of x)) (is_kind Kind.Jd (decode_of x)) refl refl
   where
-    go : (b : Bool) → is_kind Kind.Bgt (decode_of x) ≡ b → x - x % 2 ^ 32 + w ≡ encode_of (with_target (decode_of x) w)
-    go true e = kind_moved Kind.Bgt refl refl x e w
-    go false e = kind_moved Kind.Jd refl refl x (sym (ap (λ (b : Bool). b || is_kind Kind.Jd (decode_of x)) e) ∙ h) w
+    go : (b j : Bool) → is_kind Kind.Bgt (decode_of x) ≡ b → is_kind Kind.Jd (decode_of x) ≡ j
+        → x - x % 2 ^ 32 + w ≡ encode_of (with_target (decode_of x) w)
+    go true j e f = kind_moved Kind.Bgt refl refl x e w
+    go false true e f = kind_moved Kind.Jd refl refl x f w
+    go false false e f = kind_moved Kind.Call refl refl x (rw (e, f) at h) w
 
 -- its target, read off the word
 pub branch_w : (x : ℕ) → is_branch (decode_of x) ≡ true → (fields_of (decode_of x)).w ≡ x % 2 ^ 32

@@ -6,8 +6,8 @@ use Rattle.isa.specs.declared.Technique.{Technique}
 use Rattle.isa.specs.Words.{encode_of}
 use Rattle.addresses.specs.Addresses.{address_of}
 use Rattle.machine.specs.declared.Ran.{Ran}
-use Rattle.machine.specs.Numbers.{ending_number}
-use Rattle.machine.specs.Steps.{state_of, sum_of}
+use Rattle.machine.specs.Numbers.{Number, outcome_number}
+use Rattle.machine.specs.Steps.{fresh_of, sum_of}
 use Rattle.machine.specs.Runs.{run_of, run_memory}
 use Rattle.checker.specs.Verdicts.{verdict_of}
 
@@ -28,14 +28,14 @@ loading = set storing 2 (encode_of (Instr.Ld 5 4 8))
 
 -- a run from a fresh state
 abbrev pub run_over : Technique → List ℕ → List ℕ → Ran
-run_over t code regs = run_of t 4 100 (code ++ data_words) (state_of regs 0)
+run_over t code regs = run_of t 4 100 (code ++ data_words) (fresh_of regs)
 
 -- it stops with 3 at the word at 2, and leaves the memory as it was
 pub record StopsWithThree (t : Technique) (code regs : List ℕ) : Type 0 where
-  pub stop : ending_number (run_over t code regs).ending ≡ 3
+  pub stop : outcome_number (run_over t code regs).ending ≡ Number.Stopped 3
   pub count : (run_over t code regs).count ≡ 2
   pub pc : (run_over t code regs).state.pc ≡ 2
-  pub memory : run_memory t 4 100 (code ++ data_words) (state_of regs 0) ≡ code ++ data_words
+  pub memory : run_memory t 4 100 (code ++ data_words) (fresh_of regs) ≡ code ++ data_words
 
 pub record PastTopRuns (regs : List ℕ) : Type 0 where
   pub store_plain : StopsWithThree Technique.Plain storing regs

@@ -9,8 +9,8 @@ use Rattle.isa.specs.declared.Technique.{Technique}
 use Rattle.isa.specs.Words.{decode_of, encode_of}
 use Rattle.isa.specs.PostProgram.{post_code, post_edges}
 use Rattle.machine.specs.declared.Ran.{Ran}
-use Rattle.machine.specs.Numbers.{ending_number}
-use Rattle.machine.specs.Steps.{state_of, step_of, step_memory}
+use Rattle.machine.specs.Numbers.{Number, outcome_number}
+use Rattle.machine.specs.Steps.{fresh_of, step_of, step_memory}
 use Rattle.machine.specs.Runs.{run_of}
 use Rattle.bus.specs.Bus.{write_register_of}
 use Rattle.checker.specs.Verdicts.{verdict_of}
@@ -39,27 +39,27 @@ verdict t code edges = paper (verdict_of t code (length code) edges)
 
 -- a plain run of the post program's code with some data, from a fresh state
 abbrev pub plain_run : List ℕ → List ℕ → Ran
-plain_run data_words regs = run_of Technique.Plain 9 100 (post_code ++ data_words) (state_of regs 0)
+plain_run data_words regs = run_of Technique.Plain 9 100 (post_code ++ data_words) (fresh_of regs)
 
 -- "r5 written to .. after the first step": that step, that bus write, and a plain run
 abbrev pub run_after_write : List ℕ → List ℕ → ℕ → Ran
 run_after_write data_words regs word =
-    run_of Technique.Plain 9 99 (step_memory Technique.Plain 9 (post_code ++ data_words) (state_of regs 0))
-    (write_register_of (step_of Technique.Plain 9 (post_code ++ data_words) (state_of regs 0)).state 5 word).state
+    run_of Technique.Plain 9 99 (step_memory Technique.Plain 9 (post_code ++ data_words) (fresh_of regs))
+    (write_register_of (step_of Technique.Plain 9 (post_code ++ data_words) (fresh_of regs)).state 5 word).state
 
 -- the rows on runs, for every choice of the 32 registers
 pub record RunRows (regs : List ℕ) : Type 0 where
   -- "Plain run, limit 100: stop 2, count 8, pc 8."
-  pub run_stop : ending_number (plain_run [] regs).ending ≡ 2
+  pub run_stop : outcome_number (plain_run [] regs).ending ≡ Number.Stopped 2
   pub run_count : (plain_run [] regs).count ≡ 8
   pub run_pc : (plain_run [] regs).state.pc ≡ 8
   -- "r5 written to 0 after the first step: stop 2, count 5 in all, pc 8."
-  pub zero_stop : ending_number (run_after_write [] regs 0).ending ≡ 2
+  pub zero_stop : outcome_number (run_after_write [] regs 0).ending ≡ Number.Stopped 2
   pub zero_count : 1 + (run_after_write [] regs 0).count ≡ 5
   pub zero_pc : (run_after_write [] regs 0).state.pc ≡ 8
   -- "Data word 7 at address 9, r5 written to 9 after the first step: plain stop 4 after six steps, pc 6; a relaxed step goes on
   -- to 9."
-  pub nine_stop : ending_number (run_after_write (7 ∷ []) regs 9).ending ≡ 4
+  pub nine_stop : outcome_number (run_after_write (7 ∷ []) regs 9).ending ≡ Number.Stopped 4
   pub nine_count : 1 + (run_after_write (7 ∷ []) regs 9).count ≡ 6
   pub nine_pc : (run_after_write (7 ∷ []) regs 9).state.pc ≡ 6
   pub nine_relaxed : (step_of Technique.MemoryGuards 9 (post_code ++ 7 ∷ []) (run_after_write (7 ∷ []) regs 9).state).state.pc ≡ 9

@@ -13,8 +13,8 @@ mod rewrite;
 mod timing;
 
 use post_guard as guard;
-use programs::{accepted, refused, spinning, Fault, Program};
-use reference::figures::{report_flat, report_parcel_flat, Report};
+use programs::{accepted, calling, refused, spinning, Fault, Program};
+use reference::figures::{report_flat, report_parcel_flat, Report, KINDS};
 use reference::{checkers, checkers::Answer, totals, Op, Technique, TECHNIQUES};
 use std::hint::black_box;
 use timing::{measure, Table, Times, ROUNDS};
@@ -68,7 +68,7 @@ impl Machine {
         Machine {
             technique,
             state: guard::State::fresh([0; 32]),
-            plain_state: reference::State { regs: [0; 32], pc: 0 },
+            plain_state: reference::State::fresh([0; 32]),
             memory: program.memory,
             n: program.n,
             limit: 65_535,
@@ -93,7 +93,8 @@ impl Machine {
     }
 
     fn agree(&self) {
-        assert_eq!((self.state.registers, self.state.pc), (self.plain_state.regs, self.plain_state.pc));
+        let guard::State { registers, pc, depth, stack } = self.state;
+        assert_eq!(reference::State { regs: registers, pc, depth, stack }, self.plain_state);
     }
 }
 
@@ -102,6 +103,9 @@ fn runs(table: &mut Table) {
         let mut machine = Machine::fresh(technique, spinning());
         let times = measure(machine.limit.into(), &mut machine, Machine::run, Machine::plain_run);
         table.row(&format!("a run's step, {technique:?}"), times, RUN_GOAL);
+        let mut machine = Machine::fresh(technique, calling());
+        let times = measure(machine.limit.into(), &mut machine, Machine::run, Machine::plain_run);
+        table.row(&format!("a run's step with call and ret in the loop, {technique:?}"), times, RUN_GOAL);
     }
 }
 
@@ -368,9 +372,9 @@ fn sum(report: Report) -> u64 {
 }
 
 #[inline(always)]
-fn weighed(words: [u16; 10], sets: u16, largest: u16, edges: u32, possible: u32) -> u64 {
+fn weighed(words: [u16; KINDS], sets: u16, largest: u16, edges: u32, possible: u32) -> u64 {
     let kinds: u64 = words.iter().zip(1..).map(|(&count, weight): (_, u64)| u64::from(count) * weight).sum();
-    kinds + u64::from(sets) * 11 + u64::from(largest) * 12 + u64::from(edges) * 13 + u64::from(possible) * 14
+    kinds + u64::from(sets) * 13 + u64::from(largest) * 14 + u64::from(edges) * 15 + u64::from(possible) * 16
 }
 
 fn print_over_checks(over_checks: &[OverCheck]) {

@@ -8,7 +8,7 @@ pub struct Program {
     pub edges: Vec<u16>,
 }
 
-/// a loop of all nine instructions, 12 words, and one data word
+/// a loop of all instructions but call and ret, 12 words, and one data word
 pub fn spinning() -> Program {
     let code = [
         Op::Movi(3, 1),
@@ -22,6 +22,24 @@ pub fn spinning() -> Program {
         Op::Movi(8, 10),
         Op::Jmp(8),
         Op::Jd(2),
+        Op::Illegal,
+    ];
+    let mut memory = code.map(encode).to_vec();
+    memory.push(0);
+    Program { memory, n: code.len(), edges: Vec::new() }
+}
+
+/// a loop that calls one routine from two places, 9 words, and one data word
+pub fn calling() -> Program {
+    let code = [
+        Op::Movi(4, 9),
+        Op::Call(5), // 1
+        Op::Call(5),
+        Op::Bgt(5, 3, 1),
+        Op::Illegal,
+        Op::Ld(7, 4, 0), // 5: the routine
+        Op::Addi(5, 7, 3),
+        Op::Ret,
         Op::Illegal,
     ];
     let mut memory = code.map(encode).to_vec();

@@ -63,7 +63,7 @@ impl Random {
         if self.chance(16) {
             return self.word();
         }
-        let opcode = self.below(10) as u64;
+        let opcode = self.below(12) as u64;
         let register = |r: &mut Random| if r.chance(12) { r.below(256) as u64 } else { r.below(33) as u64 };
         let (a, b, c) = (register(self), register(self), register(self));
         let w = self.w();
@@ -73,11 +73,12 @@ impl Random {
         }
         // keep only what the instruction names
         let names: u64 = match opcode {
-            0 | 5 => 0xff00_0000_ffff_ffff,
+            0 | 5 | 9 => 0xff00_0000_ffff_ffff,
             1 => 0xffff_ffff_0000_0000,
             2 | 4 | 7 | 8 => 0xffff_ff00_ffff_ffff,
             3 => 0xffff_0000_ffff_ffff,
             6 => 0xffff_0000_0000_0000,
+            10 => 0xff00_0000_0000_0000,
             _ => u64::MAX,
         };
         word & names
@@ -204,7 +205,7 @@ pub fn accepted(r: &mut Random, technique: Technique, n: usize, d: usize) -> Pro
 fn other(r: &mut Random, guards: bool, first_words: &[usize]) -> Op {
     let register = |r: &mut Random| r.below(32) as u8;
     let target = |r: &mut Random| r.pick(first_words) as u32;
-    match r.below(8) {
+    match r.below(11) {
         0 => Op::Add(register(r), register(r), register(r)),
         1 => Op::Addi(register(r), register(r), r.w() as u32),
         2 => Op::Movi(register(r), r.w() as u32),
@@ -212,6 +213,8 @@ fn other(r: &mut Random, guards: bool, first_words: &[usize]) -> Op {
         4 => Op::Jd(target(r)),
         5 => Op::Ld(register(r), register(r), r.w() as u32),
         6 if !guards => Op::St(register(r), register(r), r.w() as u32),
+        7 | 8 => Op::Call(target(r)),
+        9 => Op::Ret,
         _ => Op::Illegal,
     }
 }
@@ -339,6 +342,7 @@ pub fn damage(r: &mut Random, p: &mut Program) {
         0 => p.memory[at] ^= 1 << r.below(64),
         1 => p.memory[at] = r.instruction_word(),
         2 => p.memory[at] = encode(Op::Label(r.below(n) as u32)),
+        3 if r.chance(2) => p.memory[at] = encode(Op::Call(some_target(r, n))),
         3 => p.memory[at] = encode(Op::Jd(some_target(r, n))),
         4 => p.memory[at] = encode(Op::Bgt(r.below(3) as u8, r.below(3) as u8, some_target(r, n))),
         5 => p.memory[at] = encode(Op::Illegal),
