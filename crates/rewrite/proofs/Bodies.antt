@@ -1,14 +1,14 @@
 -- What the writing of a block comes to: what stands for the word, by what it is, put behind a label that stands already.
 use Prim.Native.Nat.{ℕ, suc, ◌+◌, ◌-◌, ◌*◌, ◌/◌, ◌%◌, ◌^◌, ◌<◌, ◌≤◌}
 use mathlib.Core.Path.{◌≡◌, refl, sym, ap, ◌∙◌}
-use mathlib.Core.Bool.{Bool, true, false}
+use mathlib.Core.Bool.{Bool, true, false, ◌&&◌}
 use mathlib.Core.List.{List, [], ◌∷◌, ◌++◌}
 use native.Mathlib.Omega.{arith}
-use lib.Dec.{eqb}
+use lib.Dec.{eqb, ltb, leb}
 use lib.ListN.{length, get_or, set, take, drop}
 use lib.Seq.{sets, set-get_or}
-use borrow.Author.Tests.{not-false, eqb-true}
-use Rattle.lists.proofs.Bools.{and_rest}
+use borrow.Author.Tests.{not-false, eqb-true, eq-eqb, ltb-true, lt-ltb}
+use Rattle.lists.proofs.Bools.{and_left, and_right, and_rest, or_right, both_true, same_bool}
 use Rattle.lists.proofs.Search.{any_witness}
 use Rattle.lists.proofs.Places.{sets_append, put_part}
 use Rattle.isa.specs.declared.Instr.{Instr}
@@ -34,16 +34,34 @@ module _ {memory : List ℕ} {n : ℕ} {edges : List ℕ} {total : ℕ} (r : Bar
   rises = clean_rising edges r.rising
 
   -- a jmp has an edge, and where those before k start below a, its first one is k
-  pub starts_at : {a k : ℕ} → a < n → Cut edges a k → StartsAt memory n edges a k
+  first_edge : {a k : ℕ} → a < n → Cut edges a k → is_jump (instr_at memory a) ≡ true → (k < edge_count edges) × (jump_of edges k ≡ a)
   unfolding has_edge
-  starts_at {a} {k} l c j =
+  first_edge {a} {k} l c j =
       let some = not-false _ (and_rest (is_jump (instr_at memory a)) _ j (r.leaving a l)) in
       let v = any_witness (λ i. eqb (jump_of edges i) a) (edge_count edges) some in
       let at : jump_of edges v.0 ≡ a = eqb-true (jump_of edges v.0) a v.2 in
       let low : v.0 < k → ⊥ = λ q. omega (arith, c.below v.0 q, at) in
       let here : k < edge_count edges = omega (arith, low, v.1) in
-      let from : jump_of edges k ≡ a = omega (arith, c.above k (omega arith) here, jumps_rise edges rises k v.0 (omega (arith, low)) v.1, at) in
-      (here, first_target edges rises n r.within k (cut_at edges rises a k c here) here ∙ ap (id_of edges n) from)
+      (here, omega (arith, c.above k (omega arith) here, jumps_rise edges rises k v.0 (omega (arith, low)) v.1, at))
+
+  pub starts_at : {a k : ℕ} → a < n → Cut edges a k → StartsAt memory n edges a k
+  starts_at {a} {k} l c j =
+      let f = first_edge l c j in
+      (f.0, first_target edges rises n r.within k (cut_at edges rises a k c f.0) f.0 ∙ ap (id_of edges n) f.1)
+
+  -- and where no jmp is, no edge starts
+  pub jump_here : {a k : ℕ} → a < n → Cut edges a k → (ltb k (edge_count edges) && eqb (jump_of edges k) a) ≡ is_jump (instr_at memory a)
+  jump_here {a} {k} l c = same_bool _ _ there back
+    where
+      there : (ltb k (edge_count edges) && eqb (jump_of edges k) a) ≡ true → is_jump (instr_at memory a) ≡ true
+      there e =
+          let here = ltb-true k (edge_count edges) (and_left _ (eqb (jump_of edges k) a) e) in
+          let from = eqb-true (jump_of edges k) a (and_right (ltb k (edge_count edges)) _ e) in
+          let jumps = not-false _ (or_right (leb n (jump_of edges k)) _ (r.from_jumps k here)) in
+          ap (λ (x : ℕ). is_jump (instr_at memory x)) (sym from) ∙ jumps
+
+      back : is_jump (instr_at memory a) ≡ true → (ltb k (edge_count edges) && eqb (jump_of edges k) a) ≡ true
+      back j = let f = first_edge l c j in both_true (lt-ltb k (edge_count edges) f.0) (eq-eqb (jump_of edges k) a f.1)
 
   pub cut_jump : {a k end : ℕ} → Cut edges a k → Run edges a k end → Cut edges (a + 1) end
   cut_jump {a} {k} {end} c run = cut_run edges rises a k end c run

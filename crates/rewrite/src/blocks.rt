@@ -6,11 +6,12 @@ ghost use Rattle.graph.specs.Claim.{edge_count};
 ghost use Rattle.rewrite.specs.Inside.{body_plain, body_from, code_plain, edges_plain, LabelsStand, StartsAt};
 
 use crate::Layout;
-use isa::{Fields, Kind, is_a, is_branch};
+use isa::{Fields, is_branch};
 
 // The room in `code`, an address below n and an edge are asked at each call: the place is lent anew, so no struct can hold them.
 impl Layout<'_> {
-    // All blocks with their edges, and the illegal word. Edges rise: those that start at a or above begin at edge k.
+    // All blocks with their edges, and the illegal word. Edges rise: those that start at a or above begin at edge k. So a jmp is at a exactly
+    // where edge k starts, and no word is asked.
     #[tactic(auto, using(checker::proofs::Runs::cut_none, crate::proofs::Laying::put_none))]
     pub(crate) fn put_blocks(&self, code: &mut [u64], new_edges: &mut [u16])
         requires { LabelsStand self.now.bare.memory.now self.now.bare.n self.now.bare.edges.now code.old × (self.now.bare.total ≤ length code.old) × (2 * edge_count self.now.bare.edges.now ≤ length new_edges.old) }
@@ -19,7 +20,7 @@ impl Layout<'_> {
     {
         let mut k = 0;
         for a in 0..self.bare.n {
-            if is_a(Kind::Jmp, self.bare.memory[a]) {
+            if self.bare.starts(k, a) {
                 self.put_guard(a, k, code);
                 let end = self.bare.run_end(k, a);
                 self.put_edges(a, k, end, new_edges);

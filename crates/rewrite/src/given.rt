@@ -1,5 +1,5 @@
 // What the rewriting is given: bare code that has passed its checks.
-ghost use Rattle.std.specs.Prelude.{◌≡◌, ◌<◌, ◌≤◌};
+ghost use Rattle.std.specs.Prelude.{◌≡◌, ◌<◌, ◌≤◌, ◌&&◌, nat_lt, nat_eq};
 ghost use Rattle.graph.specs.Claim.{edge_count, jump_of, target_of};
 ghost use Rattle.graph.specs.Passes.{Is};
 ghost use Rattle.checker.specs.Passes.{Run, is_first};
@@ -39,6 +39,13 @@ impl BareCode<'_> {
         ensures { Is result (target_of self.now.edges.now k) self.now.n }
     {
         usize::from(self.edges[2 * k + 1])
+    }
+
+    // Whether there is an edge k and it starts at a.
+    pub(crate) fn starts(&self, k: usize, a: usize) -> bool
+        ensures { result ≡ (nat_lt k (edge_count self.now.edges.now) && nat_eq (jump_of self.now.edges.now k) a) }
+    {
+        k < self.count() && self.jump_of(k) == a
     }
 
     // Whether edge k is the first of its jump.
