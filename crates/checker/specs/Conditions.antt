@@ -72,7 +72,7 @@ module _ (t : Technique) (memory : List ℕ) (n : ℕ) (edges : List ℕ) where
     pub jumps_guarded : (a rs id : ℕ) → a < n → instr_at memory a ≡ Instr.Jmp rs → IsId edges a id
         → EndsWith memory (jump_guard t n id) a
     -- 5.1, condition 5: "the target address w is in code memory". Of plain code 4.1 does not ask this: there it is the clause that
-    -- K2 adds, "Plain code must from now on keep those targets in code".
+    -- K2 adds, "Plain code must from now on keep those targets in code". The paper has bgt and jd; "Targets of call obey 15" (K8).
     pub targets_in_code : (a w : ℕ) → a < n → branch_target (instr_at memory a) ≡ Some w → w < n
     -- 4.1, condition 4; 5.1, condition 5
     pub targets_outside_guards : (a w : ℕ) → a < n → branch_target (instr_at memory a) ≡ Some w

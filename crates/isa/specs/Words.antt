@@ -6,7 +6,8 @@ use Rattle.isa.specs.declared.Instr.{Instr}
 use Rattle.isa.specs.declared.Named.{Named}
 use Rattle.isa.specs.declared.Fields.{Fields}
 
--- The first question: the table's column "opcode". Unknown stands for every other byte.
+-- The first question: the table's column "opcode", and "call w (opcode 9, fields as jd) and ret (opcode 10, every field 0)" (document 02,
+-- K8). Unknown stands for every other byte.
 abbrev pub kind_of : ℕ → Kind
 kind_of opcode =
     cond (eqb opcode 0) Kind.Label
