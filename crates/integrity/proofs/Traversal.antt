@@ -52,10 +52,6 @@ module _ (G : Type 0) (along : Along G) where
   carried g [] = g
   carried g (e ∷ events) = carried (along.next g e) events
 
-  carried_append : (g : G) (xs ys : List Event) → carried g (xs ++ ys) ≡ carried (carried g xs) ys
-  carried_append g [] ys = refl
-  carried_append g (x ∷ xs) ys = carried_append (along.next g x) xs ys
-
   module _ (Claim : G → Event → Type 0) where
     abbrev pub All : G → List Event → Type 0
     All g [] = Unit {0}
