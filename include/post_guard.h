@@ -3,7 +3,7 @@
  * Build the library with `tools/library` and link target/staticlib/libpost_guard.a. It needs nothing but memcpy, memmove and memset.
  * Every call is proved to meet its contract, which is in crates/capi/src/lib.rt; for figures and totals in
  * crates/owner/src/lib.rt, for the second edition and the converters in crates/wide/src/lib.rt, for guards that are put in in
- * crates/installer/src/lib.rt. This page says the same in plain words.
+ * crates/installer/src/lib.rt, for shortest paths in crates/manager/src/lib.rt. This page says the same in plain words.
  * docs/REFERENCE.md has the rest: instructions, steps, what the check asks, the parcel, and for each number what to do about it.
  *
  * Common to all calls:
@@ -14,7 +14,8 @@
  * - A call changes nothing but what its comment says, and nothing in a place past what it puts there. Where a call is
  *   refused, nothing is changed but what it reports: the count of pg_run (with PG_SHAPE), and the place of pg_check,
  *   pg_write_parcel_placed, pg_check_wide, pg_write_wide_parcel, pg_widen, pg_narrow, pg_rewrite, pg_report,
- *   pg_report_parcel, pg_add_report and pg_add_parcel. The last two also count the refused parcel in totals[0].
+ *   pg_report_parcel, pg_add_report, pg_add_parcel and pg_shortest_path. The two additions also count the refused parcel in
+ *   totals[0].
  * - Calls keep nothing between them and may run at the same time on different places.
  *
  * A state is PG_STATE_WORDS words, and only those of the place are read or written: state[0] to state[31] are r0 to r31,
@@ -87,9 +88,10 @@ extern "C" {
 
 /* Refusals: why a call is turned away. 1 to 4 come from the calls that read a parcel (pg_read_parcel, pg_read_wide_parcel,
  * pg_widen, pg_narrow, pg_report_parcel and pg_add_parcel), 7 to 15 from those that check a program (pg_check, pg_check_wide,
- * pg_report, pg_add_report, pg_report_parcel and pg_add_parcel), 18 from these, which test it after 8 and before 9, and from
- * those that write a program (pg_write_parcel, pg_write_parcel_placed and pg_write_wide_parcel), 19 from pg_narrow alone, and
- * 20 to 22 from pg_rewrite alone, which tests 7, 8, 18, 9 and 10 before them. */
+ * pg_report, pg_add_report, pg_report_parcel, pg_add_parcel and pg_shortest_path), 18 from these, which test it after 8 and
+ * before 9, and from those that write a program (pg_write_parcel, pg_write_parcel_placed and pg_write_wide_parcel), 19 from
+ * pg_narrow alone, 20 to 22 from pg_rewrite alone, which tests 7, 8, 18, 9 and 10 before them, and 23 from pg_shortest_path
+ * alone, after all that a check refuses. */
 #define PG_COUNT_MISSING 1       /* fewer than four bytes are left for a count */
 #define PG_COUNT_LIMIT 2         /* a count breaks its section's limits */
 #define PG_ITEMS_MISSING 3       /* the bytes for a section's items are not all there */
@@ -112,10 +114,14 @@ extern "C" {
 #define PG_LABEL_OR_RESERVED 20  /* bare code has a label, or a word that names r0, r1 or r2, at this address */
 #define PG_BRANCH_OUT 21         /* this bgt, jd or call leads out of the bare code */
 #define PG_RESULT_TOO_LONG 22    /* with its guards the code has more than PG_MAX_CODE words */
+#define PG_OUTSIDE_CODE 23       /* the address that a path is asked for is outside code */
 
 /* What else became of a parcel that was to be added to totals. pg_add_report and pg_add_parcel answer them. */
 #define PG_WITHOUT_JUMPS 256 /* accepted, but without jumps: passed over */
 #define PG_UNCHANGED 257     /* the totals are as they were: they are full, a sum would pass 64 bits, or they are no totals */
+
+/* What pg_shortest_path answers of an accepted program where no path leads to the address. It is no refusal. */
+#define PG_UNREACHABLE 258
 
 /* Opcodes, as pg_decode gives them and pg_encode takes them. */
 #define PG_LABEL 0
@@ -289,6 +295,26 @@ uint32_t pg_add_report(uint8_t technique, const uint64_t *memory, size_t memory_
  * refused parcel. */
 uint32_t pg_add_parcel(uint8_t technique, const uint8_t *parcel, size_t parcel_len, uint64_t *totals, size_t totals_len,
                        uint64_t *place, size_t place_len);
+
+/* Checks a program and, where it is accepted, puts a shortest path from address 0 to the address: how a routine can be reached.
+ *
+ * A path begins with 0 and goes from each address to one of its successors in the claimed graph: pc + 1 for ordinary words,
+ * pc + 1 and w for a bgt, w for a jd or call, the listed targets for a jmp, the words after all calls for a ret, none for an
+ * illegal word, each cut to code. The path with the fewest steps is put; among equals, the one that has the lower address where
+ * they first part. The path to 0 is 0 alone. Such a path passes no address twice: a place of PG_MAX_CODE numbers always suffices.
+ *
+ * Answers PG_OK, puts the path into path, from 0 to the address, and how many addresses it has into count[0];
+ * PG_UNREACHABLE exactly where no path leads to the address: nothing is put into path and count; or 6 to 15 or 18, as pg_check
+ * answers; then PG_OUTSIDE_CODE, where the address is n or more; or PG_PLACE_TOO_SHORT where path (below the addresses of the
+ * path), count (0) or place (below 2) is too short, tested last: what is refused or unreachable needs no room. Where place_len
+ * is 2 or more, the place is put for every answer, as by pg_check: 0 and 0 where there is none, as with PG_UNREACHABLE and 23.
+ *
+ * Where PG_UNREACHABLE is answered, no run of the program that is started at address 0 arrives at the address, whatever the bus
+ * writes. A path promises less: it ignores the call stack, and takes a ret to the word after any call. So there need not be a
+ * run that follows it. */
+uint32_t pg_shortest_path(uint8_t technique, const uint64_t *memory, size_t memory_len, size_t n, const uint16_t *edges,
+                          size_t edges_len, uint64_t address, uint16_t *path, size_t path_len, uint64_t *count,
+                          size_t count_len, uint64_t *place, size_t place_len);
 
 #ifdef __cplusplus
 }

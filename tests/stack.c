@@ -24,7 +24,7 @@ static uint8_t technique;
 static uint8_t parcel[PG_MAX_PARCEL + 1], wide[PG_MAX_WIDE_PARCEL], written[PG_MAX_WIDE_PARCEL];
 static size_t parcel_len, wide_len, len, n, edge_numbers;
 static uint64_t memory[PG_MAX_CODE + PG_MAX_DATA], code[PG_MAX_CODE];
-static uint16_t edges[2 * PG_MAX_EDGES], new_edges[2 * PG_MAX_EDGES], map[PG_MAX_CODE];
+static uint16_t edges[2 * PG_MAX_EDGES], new_edges[2 * PG_MAX_EDGES], map[PG_MAX_CODE], path[PG_MAX_CODE];
 static uint32_t wide_edges[2 * PG_MAX_EDGES];
 static uint64_t state[PG_STATE_WORDS], figures[PG_FIGURES], totals[PG_TOTALS], place[2], counts[3];
 static uint32_t fields[5];
@@ -67,6 +67,10 @@ static void add_report(void) {
     pg_add_report(technique, memory, len, n, edges, edge_numbers, totals, PG_TOTALS, place, 2);
 }
 static void add_parcel(void) { pg_add_parcel(technique, parcel, parcel_len, totals, PG_TOTALS, place, 2); }
+/* to the last code word */
+static void shortest_path(void) {
+    pg_shortest_path(technique, memory, len, n, edges, edge_numbers, n - 1, path, PG_MAX_CODE, counts, 1, place, 2);
+}
 
 /* the most that docs/REFERENCE.md says of each, in bytes */
 static const struct {
@@ -79,6 +83,7 @@ static const struct {
     {"pg_rewrite", rewrite, 9 * 1024},
     {"pg_report", report, 9 * 1024},
     {"pg_add_report", add_report, 9 * 1024},
+    {"pg_shortest_path", shortest_path, 15 * 1024},
     {"pg_report_parcel", report_parcel, 50 * 1024},
     {"pg_add_parcel", add_parcel, 50 * 1024},
     {"pg_read_parcel", read_parcel, 1024},

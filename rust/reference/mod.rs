@@ -6,6 +6,7 @@
 pub mod checkers;
 pub mod editions;
 pub mod figures;
+pub mod paths;
 pub mod rewrite;
 pub mod totals;
 

@@ -182,6 +182,21 @@ mod library {
             place: *mut u64,
             place_len: usize,
         ) -> u32;
+        pub fn pg_shortest_path(
+            technique: u8,
+            memory: *const u64,
+            memory_len: usize,
+            n: usize,
+            edges: *const u16,
+            edges_len: usize,
+            address: u64,
+            path: *mut u16,
+            path_len: usize,
+            count: *mut u64,
+            count_len: usize,
+            place: *mut u64,
+            place_len: usize,
+        ) -> u32;
     }
 }
 
@@ -515,11 +530,41 @@ pub mod slices {
             )
         }
     }
+
+    #[inline]
+    pub fn shortest_path(
+        technique: u8,
+        memory: &[u64],
+        n: usize,
+        edges: &[u16],
+        address: u64,
+        path: &mut [u16],
+        count: &mut [u64],
+        place: &mut [u64],
+    ) -> u32 {
+        unsafe {
+            library::pg_shortest_path(
+                technique,
+                memory.as_ptr(),
+                memory.len(),
+                n,
+                edges.as_ptr(),
+                edges.len(),
+                address,
+                path.as_mut_ptr(),
+                path.len(),
+                count.as_mut_ptr(),
+                count.len(),
+                place.as_mut_ptr(),
+                place.len(),
+            )
+        }
+    }
 }
 
 pub use slices::{
     add_parcel, add_report, check, check_wide, decode, encode, narrow, read_parcel, read_wide_parcel, report, report_parcel, rewrite,
-    widen, write_data, write_parcel, write_parcel_placed, write_wide_parcel,
+    shortest_path, widen, write_data, write_parcel, write_parcel_placed, write_wide_parcel,
 };
 
 /// 32 registers, the pc, the depth, and 128 places of the stack.

@@ -41,21 +41,26 @@
 //! An installer need not write labels and guards: [`Program::with_guards`] puts them into bare code, and gives a map from each old
 //! address to its new one.
 //!
+//! A manager's question: how can a routine be reached? [`Program::shortest_path`] gives a path with the fewest steps, or says that
+//! there is none.
+//!
 //! The functions are thin, and `#[inline]`: a call costs what the library's call costs.
 //!
 //! No function here panics, and none has a precondition: any numbers may be passed. The proved contract of each call is in
 //! `crates/capi/src/lib.rt`; for figures and totals in `crates/owner/src/lib.rt`, for the second edition and the converters in
-//! `crates/wide/src/lib.rt`, for guards that are put in in `crates/installer/src/lib.rt`. The only unsafe code, in `calls.rs`,
-//! hands slices over to them. Instructions, steps, what a check asks, the parcel and every number are explained in
-//! docs/REFERENCE.md of the repository.
+//! `crates/wide/src/lib.rt`, for guards that are put in in `crates/installer/src/lib.rt`, for shortest paths in
+//! `crates/manager/src/lib.rt`. The only unsafe code, in `calls.rs`, hands slices over to them. Instructions, steps, what a check
+//! asks, the parcel and every number are explained in docs/REFERENCE.md of the repository.
 
 mod calls;
 mod editions;
+mod paths;
 mod rewrite;
 
 pub use editions::{
     check_wide, narrow, narrowed, read_wide_parcel, widen, widened, write_wide_parcel, WideProgram, MAX_WIDE_PARCEL,
 };
+pub use paths::{shortest_path, shortest_path_into};
 pub use rewrite::{rewrite, Guarded, MAX_CODE};
 
 use std::fmt;
@@ -176,17 +181,18 @@ pub enum Refusal {
     LabelOrReserved = 20,
     BranchOut = 21,
     ResultTooLong = 22,
+    OutsideCode = 23,
 }
 
 impl Refusal {
-    /// The number of docs/REFERENCE.md, 1 to 22.
+    /// The number of docs/REFERENCE.md, 1 to 23.
     #[inline]
     pub fn number(self) -> u32 {
         self as u32
     }
 
     /// Every refusal, in the sequence of the numbers.
-    pub const ALL: [Refusal; 22] = [
+    pub const ALL: [Refusal; 23] = [
         Refusal::CountMissing,
         Refusal::CountLimit,
         Refusal::ItemsMissing,
@@ -209,9 +215,10 @@ impl Refusal {
         Refusal::LabelOrReserved,
         Refusal::BranchOut,
         Refusal::ResultTooLong,
+        Refusal::OutsideCode,
     ];
 
-    /// The refusal of a number that the library answers: 1 to 22.
+    /// The refusal of a number that the library answers: 1 to 23.
     #[inline]
     fn of(number: u32) -> Refusal {
         Refusal::ALL[(number as usize).clamp(1, Refusal::ALL.len()) - 1]
@@ -243,6 +250,7 @@ impl fmt::Display for Refusal {
             Refusal::LabelOrReserved => "bare code has a label, or a word that names r0, r1 or r2",
             Refusal::BranchOut => "a bgt, jd or call leads out of the bare code",
             Refusal::ResultTooLong => "with its guards the code has more than 2,048 words",
+            Refusal::OutsideCode => "the address that a path is asked for is outside code",
         };
         write!(f, "{} ({})", words, self.number())
     }
@@ -500,8 +508,8 @@ impl fmt::Display for Verdict {
     }
 }
 
-/// Why a program has no figures, no parcel or no guards, or a parcel none in the other edition: the first rule that is broken, and
-/// its first faulty place.
+/// Why a program has no figures, no parcel, no guards or no answer about paths, or a parcel none in the other edition: the first rule
+/// that is broken, and its first faulty place.
 #[derive(Clone, Copy, PartialEq, Eq, Hash, Debug)]
 pub struct Fault {
     pub refusal: Refusal,

@@ -473,6 +473,7 @@ fn examples_have_the_figures_worked_out_by_hand() {
         ("memory-guards", MemoryGuards, [1, 0, 2, 5, 6, 0, 1, 1, 1, 0, 0, 1], 1, 1, Some((1, 18))),
         ("shared-return-by-jump", Plain, [2, 3, 1, 6, 3, 4, 1, 3, 1, 0, 0, 1], 1, 2, Some((2, 25))),
         ("shared-routine", Plain, [0, 3, 0, 3, 1, 1, 0, 2, 1, 2, 2, 1], 0, 0, None),
+        ("credit-routine", Plain, [2, 0, 7, 3, 3, 4, 1, 4, 2, 2, 1, 1], 1, 2, Some((2, 30))),
     ];
     for (name, technique, words, sets, largest, freedom) in expected {
         let path = format!("{}/../examples/{name}.parcel", env!("CARGO_MANIFEST_DIR"));

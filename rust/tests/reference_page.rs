@@ -1,8 +1,8 @@
 //! docs/REFERENCE.md against what it tells of: the programs and bytes shown are the examples and are accepted as the page says, or
 //! get guards if they are bare, the tables of numbers have every number under the header's name, every call of the header has its
-//! row, the longest parcels and the words of a state are those of the header and of the crate, what the examples of figures and of
-//! guards print is what they print, and the definitions that the page names are there. Every example, of either edition, gets the
-//! verdicts that were worked out by hand.
+//! row, the longest parcels and the words of a state are those of the header and of the crate, what the examples of figures, of
+//! guards and of paths print is what they print, and the definitions that the page names are there. Every example, of either
+//! edition, gets the verdicts that were worked out by hand.
 use post_guard::{
     encode, narrowed, run, widened, Ending, Fault, Instruction::*, Place, Program, Refusal, Refusal::*, State, Stop, Technique,
     Verdict, WideProgram,
@@ -127,6 +127,8 @@ fn examples_get_the_verdicts_worked_out_by_hand() {
         ("clipping-guarded", Verdict::Accepted, address(StoreUnguarded, 14)),
         // the label at 9 is no destination; 12 comes before 13 and 14
         ("clipping-skipped", address(LabelCondition, 9), address(LabelCondition, 9)),
+        // with memory guards the st at 21 has no guard
+        ("credit-routine", Verdict::Accepted, address(StoreUnguarded, 21)),
         // with memory guards the st at 25 has no guard
         ("day-and-night", Verdict::Accepted, address(StoreUnguarded, 25)),
         // edge 1, from 11, comes after edge 0, from 22; 18 comes before 13
@@ -278,6 +280,7 @@ fn every_number_has_a_row_under_its_name() {
     let numbers = [
         ("## Numbers", (1..=last_refusal).collect()),
         ("## Figures and totals", vec![0, 256, 257]),
+        ("## Shortest paths", vec![0, 258, 23, 5]),
     ];
     for (heading, numbers) in numbers {
         let rows = rows(heading);
@@ -366,7 +369,7 @@ fn output_shown_is_what_the_examples_print() {
         files.push(file);
     }
     files.sort();
-    assert_eq!(files, ["rust/examples/figures.out", "rust/examples/guards.out"]);
+    assert_eq!(files, ["rust/examples/figures.out", "rust/examples/guards.out", "rust/examples/paths.out"]);
 }
 
 #[test]

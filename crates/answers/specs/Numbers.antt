@@ -25,3 +25,4 @@ refusal_number Refusal.EdgeTooWide = 19
 refusal_number Refusal.LabelOrReserved = 20
 refusal_number Refusal.BranchOut = 21
 refusal_number Refusal.ResultTooLong = 22
+refusal_number Refusal.OutsideCode = 23

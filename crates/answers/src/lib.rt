@@ -1,5 +1,5 @@
-// The numbers that calls give (document 01, "Numbers given, in checking order"; of document 02, 18 is K3's, 19 is K6's and 20 to 22 are
-// K7's), by name, what a refusal says, and the test behind number 6, which every call on memory and graph makes first.
+// The numbers that calls give (document 01, "Numbers given, in checking order"; of document 02, 18 is K3's, 19 is K6's, 20 to 22 are K7's
+// and 23 is K9's), by name, what a refusal says, and the test behind number 6, which every call on memory and graph makes first.
 #![tactic(auto)]
 
 ghost use Rattle.std.specs.Prelude.{◌≡◌};
@@ -31,6 +31,7 @@ pub enum Refusal {
     LabelOrReserved,
     BranchOut,
     ResultTooLong,
+    OutsideCode,
 }
 
 // Where a fault is: an edge, counted from 0, an address, or no place at all. `Nowhere` is a case and no Option: nobody asks whether there is a
@@ -92,6 +93,7 @@ impl From<Refusal> for u8 {
             Refusal::LabelOrReserved => 20,
             Refusal::BranchOut => 21,
             Refusal::ResultTooLong => 22,
+            Refusal::OutsideCode => 23,
         }
     }
 }

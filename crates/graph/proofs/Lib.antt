@@ -3,3 +3,4 @@ pub mod Owners
 pub mod Labels
 pub mod Apart
 pub mod Returns
+pub mod CodeWords

@@ -1,3 +1,4 @@
 pub mod Claim
 pub mod Rules
 pub mod Passes
+pub mod Paths

@@ -5,3 +5,4 @@ pub mod Steps
 pub mod Demand
 pub mod Home
 pub mod Shown
+pub mod Ways

@@ -26,6 +26,7 @@ use Rattle.machine.specs.Numbers.{Number, stop_number}
 use Rattle.machine.specs.Steps.{fetch_end, next_allowed, reg_of, stack_places, state_of, step_shaped, latest_of, load_of, store_of, call_of, return_of, effect_of, settle_of, intent_of, after_of, memory_after, storable, step_of, step_memory}
 use Rattle.graph.specs.Claim.{id_of, is_return, successor_by, is_successor}
 use Rattle.graph.proofs.Returns.{return_of_call, ret_successor}
+use Rattle.graph.proofs.CodeWords.{return_code}
 use Rattle.checker.specs.Conditions.{Conditions}
 use Rattle.checker.proofs.Listed.{listed_edge}
 use Rattle.integrity.specs.Calls.{Config, config, tried_at, after_step}
@@ -143,12 +144,6 @@ module _ (t : Technique) (code checked edges : List ℕ) (ok : Conditions t (cod
 
   pub code_word : instr_at memory pc ≡ instr_at code pc
   code_word = ap decode_of (get_or-append code checked 0 pc inv.in_code)
-
-  return_code : (q : ℕ) → is_return memory n q ≡ is_return code n q
-  unfolding is_return
-  return_code q =
-      any_ext (λ a. is_call (instr_at memory a) && eqb q (a + 1)) (λ a. is_call (instr_at code a) && eqb q (a + 1)) n
-      (λ a h. ap (λ (x : ℕ). is_call (decode_of x) && eqb q (a + 1)) (get_or-append code checked 0 a h))
 
   loads : (rd rs w : ℕ) → instr_at memory pc ≡ Instr.Ld rd rs w
       → Tells (Instr.Ld rd rs w) (load_of c.memory rd (address_of (reg rs) w) (pc + 1))
@@ -332,7 +327,7 @@ module _ (t : Technique) (code checked edges : List ℕ) (ok : Conditions t (cod
   return_good here some =
       let q = latest_of depth stack in
       let home = latest_home some in
-      made_good Instr.Ret here (state_of regs q (depth - 1) stack) c.memory (return_in t memory n edges ok c inv q home) (ret_successor code n edges pc q (sym (return_code q) ∙ home)) inv.code_same
+      made_good Instr.Ret here (state_of regs q (depth - 1) stack) c.memory (return_in t memory n edges ok c inv q home) (ret_successor code n edges pc q (sym (return_code code checked q) ∙ home)) inv.code_same
       inv.size_same inv.registers popped (λ p. absurd (inside_no_return t memory n edges q p home))
 
   -- an effect whose next pc is in code is not stopped

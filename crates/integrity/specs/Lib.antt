@@ -2,3 +2,4 @@ pub mod Calls
 pub mod Demand
 pub mod Home
 pub mod Examples
+pub mod Ways

@@ -1,5 +1,5 @@
-// The library for C and Rust, libpost_guard.a: the calls of `capi`, `owner`, `wide` and `installer` under the names that `include/post_guard.h`
-// declares, each with the contract of the call that it makes. C needs a name for each, and lends each place by itself: so the lists of
+// The library for C and Rust, libpost_guard.a: the calls of `capi`, `owner`, `wide`, `installer` and `manager` under the names that
+// `include/post_guard.h` declares, each with the contract of the call that it makes. C needs a name for each, and lends each place by itself: so the lists of
 // parameters are long, and calls are alike.
 #![tactic(auto)]
 
@@ -13,6 +13,7 @@ ghost use Rattle.report.specs.Reports.{parcel_report, report_of};
 ghost use Rattle.owner.specs.Reports.{AddCall, ReportCall};
 ghost use Rattle.editions.specs.Converters.{bytes_for, narrowed_of, widened_of};
 ghost use Rattle.installer.specs.Calls.{RewriteCall};
+ghost use Rattle.manager.specs.Calls.{PathCall};
 
 #[unsafe(no_mangle)]
 pub extern "C" fn pg_decode(word: u64, place: &mut [u32]) -> u32
@@ -244,4 +245,20 @@ pub extern "C" fn pg_rewrite(
     ensures { RewriteCall memory.now n edges.now code.old new_edges.old map.old counts.old place.old result code.new new_edges.new map.new counts.new place.new }
 {
     installer::pg_rewrite(memory, n, edges, code, new_edges, map, counts, place)
+}
+
+#[unsafe(no_mangle)]
+pub extern "C" fn pg_shortest_path(
+    technique: u8,
+    memory: &[u64],
+    n: usize,
+    edges: &[u16],
+    address: u64,
+    path: &mut [u16],
+    count: &mut [u64],
+    place: &mut [u64],
+) -> u32
+    ensures { PathCall technique memory.now n edges.now address path.old count.old place.old result path.new count.new place.new }
+{
+    manager::pg_shortest_path(technique, memory, n, edges, address, path, count, place)
 }

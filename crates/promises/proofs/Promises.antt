@@ -26,6 +26,11 @@ use Rattle.capi.proofs.Apart.{stops_apart}
 use Rattle.owner.proofs.Unchanged.{refused_reports_change_nothing}
 use Rattle.wide.proofs.Unchanged.{refused_wide_calls_change_nothing}
 use Rattle.installer.proofs.Unchanged.{refused_rewriting_changes_nothing}
+use Rattle.integrity.proofs.Ways.{ways_are_paths}
+use Rattle.paths.proofs.Answers.{one_answer, start_alone}
+use Rattle.paths.proofs.Examples.{paths_shown}
+use Rattle.arrivals.proofs.Arrivals.{never_arrives}
+use Rattle.manager.proofs.Told.{path_answers_told}
 use Rattle.promises.specs.Promises.{Promises}
 
 pub kept : Promises
@@ -68,5 +73,11 @@ kept =
       returns_shown = returns_shown;
       stack_stops_shown = stack_stops_shown;
       stops_apart = stops_apart;
+      one_answer = one_answer;
+      start_alone = start_alone;
+      paths_shown = paths_shown;
+      ways_are_paths = ways_are_paths;
+      never_arrives = never_arrives;
+      path_answers_told = path_answers_told;
       rows = table;
     }

@@ -30,6 +30,11 @@ use Rattle.capi.specs.Theorems.{RefusedChangesNothing, StopsApart}
 use Rattle.owner.specs.Theorems.{RefusedReportsChangeNothing}
 use Rattle.wide.specs.Theorems.{RefusedWideCallsChangeNothing}
 use Rattle.installer.specs.Theorems.{RefusedRewritingChangesNothing}
+use Rattle.integrity.specs.Ways.{WaysArePaths}
+use Rattle.paths.specs.Theorems.{OneAnswer, StartAlone}
+use Rattle.paths.specs.Examples.{PathsShown}
+use Rattle.arrivals.specs.Arrivals.{NeverArrives}
+use Rattle.manager.specs.Theorems.{PathAnswersTold}
 
 pub record Promises : Type 0 where
   -- Instruction words, written and read, give back each other.
@@ -111,5 +116,16 @@ pub record Promises : Type 0 where
   pub stack_stops_shown : (t : Technique) (registers : ℕ → ℕ) → StackStopsShown t registers
   -- What C and Rust get for these two stops is no number of a refusal.
   pub stops_apart : StopsApart
+  -- K9: the paths of the graph determine the answer, and the path itself; the path from 0 to 0 is 0 alone.
+  pub one_answer : OneAnswer
+  pub start_alone : StartAlone
+  -- That is about something: the lower of two equally short ways, and an address that nothing leads to.
+  pub paths_shown : PathsShown
+  -- Over an accepted program, in every list of steps, runs and bus writes, the addresses where the machine stood are a path from 0;
+  pub ways_are_paths : WaysArePaths
+  -- so where the answer is "unreachable", no run arrives.
+  pub never_arrives : NeverArrives
+  -- From C or Rust, an answer that is not 0 has put nothing, and 258 is "unreachable".
+  pub path_answers_told : PathAnswersTold
   -- The starred rows of document 01.
   pub rows : Table

@@ -1,6 +1,7 @@
 //! Times as ratios: the library's calls, through the safe wrapper, against plain safe Rust that does the same work, both built
 //! for release, in one run. `cargo bench` prints the table of ratios, the check's time by size, and the times of the report, of the
-//! check on 32-bit edges and of putting in guards against the check's; at last the rows that are over their goal.
+//! check on 32-bit edges, of putting in guards and of a shortest path against the check's; at last the rows that are over their
+//! goal.
 //!
 //! Like is timed with like. The plain Rust side is a call too: what is timed of it is kept out of line, here and in the
 //! reference, and state and memory are lent. No buffer is cleared between calls, for either side: places are filled once, before
@@ -8,6 +9,7 @@
 #[path = "../../reference/mod.rs"]
 mod reference;
 mod editions;
+mod paths;
 mod programs;
 mod rewrite;
 mod timing;
@@ -39,10 +41,12 @@ fn main() {
     editions::parcels(&mut table, "a full parcel", full());
     let against_first = editions::checks(&mut table);
     let over_guarded = rewrite::rewrites(&mut table);
+    let over_accepted = paths::paths(&mut table);
     print_growth(&growth);
     print_over_checks(&over_checks);
     editions::print_against_first(&against_first);
     rewrite::print_over_checks(&over_guarded);
+    paths::print_over_checks(&over_accepted);
     println!("\n{}", table.told());
 }
 

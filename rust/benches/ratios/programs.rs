@@ -118,6 +118,41 @@ pub fn accepted(technique: Technique, n: usize) -> Program {
     Program { memory, n, edges }
 }
 
+/// One jd over the word at 1, which no path leads to.
+pub fn three_words() -> Program {
+    let memory = [Op::Jd(2), Op::Movi(5, 1), Op::Illegal].map(encode).to_vec();
+    Program { memory, n: 3, edges: Vec::new() }
+}
+
+/// An accepted program of n words and 64 data words, without jumps: blocks of two branches, a call, and the routine that it calls.
+pub fn sharing(n: usize) -> Program {
+    let mut code = Vec::new();
+    while code.len() + 8 < n - 2 {
+        let (routine, next) = (code.len() as u32 + 5, code.len() as u32 + 8);
+        code.extend([Op::Addi(6, 6, 1), Op::Bgt(6, 7, next), Op::Call(routine), Op::Add(6, 6, 5), Op::Jd(next)]);
+        code.extend([Op::Ld(5, 4, 0), Op::Addi(5, 5, 1), Op::Ret]);
+    }
+    code.resize(n - 1, Op::Addi(9, 9, 1));
+    code.push(Op::Illegal);
+    let memory = code.into_iter().map(encode).chain(0..64).collect();
+    Program { memory, n, edges: Vec::new() }
+}
+
+/// An accepted program of n words, one after the other, and 64 data words.
+pub fn straight(n: usize) -> Program {
+    let mut memory = vec![encode(Op::Addi(9, 9, 1)); n - 1];
+    memory.push(encode(Op::Illegal));
+    memory.extend(0..64);
+    Program { memory, n, edges: Vec::new() }
+}
+
+/// The same program, but that no path leads to its last word but one: the word before it goes to the last. Both were ordinary words.
+pub fn ending_unreachably(mut program: Program) -> Program {
+    let halt = program.n as u32 - 1;
+    program.memory[program.n - 3] = encode(Op::Jd(halt));
+    program
+}
+
 /// The post program as bare code, without data.
 pub fn bare_post() -> Program {
     let memory = [Op::Movi(5, 2), Op::Jmp(5), Op::Illegal].map(encode).to_vec();

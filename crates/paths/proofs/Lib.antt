@@ -1,0 +1,10 @@
+pub mod Queues
+pub mod Orders
+pub mod Trails
+pub mod Laying
+pub mod Successors
+pub mod Noting
+pub mod FirstEdges
+pub mod Accepted
+pub mod Answers
+pub mod Examples

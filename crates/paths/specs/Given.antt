@@ -1,0 +1,19 @@
+-- What the search is given, which only the private functions of this crate promise each other.
+use Rattle.std.specs.Prelude.{ℕ, ◌<◌, ◌≡◌, true, false, List, get_or}
+use Rattle.isa.specs.Instructions.{instr_at, is_jump}
+use Rattle.graph.specs.Claim.{edge_count, jump_of, has_edge}
+use Rattle.graph.specs.Passes.{Sized, Within}
+use Rattle.rising.specs.Rising.{not_rising}
+use Rattle.checker.proofs.Runs.{Cut}
+
+-- what the search needs of an accepted program
+pub record Searchable (memory : List ℕ) (n : ℕ) (edges : List ℕ) : Type 0 where
+  pub sized : Sized memory n
+  pub within : Within edges n
+  pub rising : (k : ℕ) → k < edge_count edges → not_rising edges k ≡ false
+  -- a jmp has an edge
+  pub leaving : (a : ℕ) → a < n → is_jump (instr_at memory a) ≡ true → has_edge edges a ≡ true
+
+-- the first edge of each jump
+abbrev pub Firsts : List ℕ → List ℕ → Type 0
+Firsts edges firsts = (k : ℕ) → k < edge_count edges → Cut edges (jump_of edges k) (get_or firsts (jump_of edges k) 0)
