@@ -3,7 +3,8 @@
 --
 -- That every call ends, does nothing undefined and answers what its definition says is each function's own contract, in `src/`:
 -- `decode` is `decode_of`, `check` and `check_wide` are `verdict_of`, `step` is `step_of`, `run` is `run_of`, `read_parcel` is `read_of 2` for edge
--- numbers of 16 bits and `read_of 4` for those of 32, `report` is `report_of`, `rewrite` is `rewrite_of`, and so on.
+-- numbers of 16 bits and `read_of 4` for those of 32, `report` is `report_of`, `rewrite` is `rewrite_of`, and so on;
+-- `shortest_path` answers what `Shortest` says.
 use Rattle.std.specs.Prelude.{ℕ, List}
 use Rattle.isa.specs.declared.Technique.{Technique}
 use Rattle.isa.specs.Theorems.{RoundTrips}
