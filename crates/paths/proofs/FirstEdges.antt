@@ -16,9 +16,6 @@ pub record FirstsTo (edges firsts : List ℕ) (k : ℕ) : Type 0 where
   pub size : length firsts ≡ 2048
   pub each : (i : ℕ) → i < k → Cut edges (jump_of edges i) (get_or firsts (jump_of edges i) 0)
 
-pub firsts_none : (edges firsts : List ℕ) → length firsts ≡ 2048 → FirstsTo edges firsts 0
-firsts_none edges firsts e = record { size = e; each = λ i l. clash (omega (arith, l)) }
-
 module _ (edges : List ℕ) (rising : Rising edges) {firsts : List ℕ} (k : ℕ) (l : k < edge_count edges) (h : FirstsTo edges firsts k) where
   pub firsts_put : (j : ℕ) → j ≡ jump_of edges k → j < 2048 → is_first edges k ≡ true → FirstsTo edges (set firsts j k) (k + 1)
   firsts_put j e low first = record { size = length-set firsts j k ∙ h.size; each = λ i s. go i s (dec_lt i k) }

@@ -1,7 +1,7 @@
 // The addresses reached from 0, in the sequence in which they were.
 ghost use Rattle.std.specs.Prelude.{◌≡◌, ◌≤◌, ◌<◌, false, length, get_or, ltb};
 ghost use Rattle.lists.specs.Places.{put_over};
-ghost use Rattle.paths.specs.Inside.{start_of, note_of, Sizes, Back, Trail, LenOf, PathOver};
+ghost use Rattle.paths.specs.Inside.{at, start_of, note_of, Sizes, Back, Trail, LenOf, PathOver};
 
 // `queue` has the addresses, and `before`, for each, the place in the queue of the one from which it was reached. `noted` tells which
 // addresses are there.
@@ -26,6 +26,14 @@ impl Reached {
             noted,
             len: 1,
         }
+    }
+
+    // The address at place i.
+    pub(crate) fn at(&self, i: usize) -> usize
+        requires { Sizes self.now × (i < 2048) }
+        ensures { result ≡ at self.now i }
+    {
+        usize::from(self.queue[i])
     }
 
     // Puts an address at the end, as reached from the one at `head`, unless it is outside code or there already.
