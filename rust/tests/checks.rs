@@ -4,7 +4,7 @@
 mod reference;
 mod common;
 
-use common::{accepted, damage, number_of, rising_edges, sort_edges, Program, Random};
+use common::{accepted, damage, number_of, rising_edges, sort_edges, told, Program, Random};
 use post_guard::raw;
 use reference::{checkers, Technique, TECHNIQUES};
 
@@ -19,13 +19,6 @@ fn compare(technique: Technique, number: u8, p: &Program) -> u32 {
     assert_eq!(checkers::check_flat(technique, &p.memory, p.n, &p.edges), expected, "flat, {technique:?} {}", told(p));
     assert_eq!(checkers::check_with_sets(technique, &p.memory, p.n, &p.edges), expected, "sets, {technique:?} {}", told(p));
     answer
-}
-
-fn told(p: &Program) -> String {
-    if p.memory.len() < 80 {
-        return format!("{p:x?}");
-    }
-    format!("n {}, {} words, {} edge numbers", p.n, p.memory.len(), p.edges.len())
 }
 
 fn many(technique: Technique, seed: u64) {

@@ -5,8 +5,8 @@
 mod reference;
 mod common;
 
-use common::{accepted, damage, library, number_of, padded, parcel_of, repeat_edges, without_jumps, Program, Random};
-use post_guard::{raw, Fault, Freedom, Kind, Place};
+use common::{accepted, answer_of, damage, library, number_of, padded, parcel_of, repeat_edges, told, without_jumps, Program, Random};
+use post_guard::{raw, Fault, Freedom, Kind};
 use reference::figures::{self, Figures, Report};
 use reference::{encode, Op, Technique, TECHNIQUES};
 use std::collections::HashSet;
@@ -98,19 +98,8 @@ fn plainly(report: Result<post_guard::Figures, Fault>) -> Report {
             largest: figures.largest,
             freedom: figures.freedom.map(|Freedom { edges, possible }| (edges, possible)),
         }),
-        Err(Fault { refusal, place }) => Err(match place {
-            None => (refusal.number(), 0, 0),
-            Some(Place::Edge(k)) => (refusal.number(), 1, k as u64),
-            Some(Place::Address(a)) => (refusal.number(), 2, a as u64),
-        }),
+        Err(fault) => Err(answer_of(fault)),
     }
-}
-
-fn told(p: &Program) -> String {
-    if p.memory.len() < 80 {
-        return format!("{p:x?}");
-    }
-    format!("n {}, {} words, {} edge numbers", p.n, p.memory.len(), p.edges.len())
 }
 
 /// How many programs of each sort were met.

@@ -5,8 +5,8 @@
 mod reference;
 mod common;
 
-use common::{accepted, damage, library, number_of, padded, without_jumps, Program, Random};
-use post_guard::{raw, step, Fault, Place, Refusal, State, Step, Stop};
+use common::{accepted, answer_of, damage, library, number_of, padded, told, without_jumps, Program, Random};
+use post_guard::{raw, step, Fault, Refusal, State, Step, Stop};
 use reference::checkers::{self, Answer};
 use reference::paths::{comes_first, every_path, shortest_path, shortest_path_flat, shortest_paths, successors, Found};
 use reference::{decode, encode, is_successor, Op, Technique, TECHNIQUES};
@@ -121,18 +121,7 @@ fn compare(r: &mut Random, technique: Technique, p: &Program, address: u64, foun
 
 /// what the wrapper gives, as the reference has it
 fn plainly<T>(found: Result<T, Fault>) -> Result<T, Answer> {
-    found.map_err(|Fault { refusal, place }| match place {
-        None => (refusal.number(), 0, 0),
-        Some(Place::Edge(k)) => (refusal.number(), 1, k as u64),
-        Some(Place::Address(a)) => (refusal.number(), 2, a as u64),
-    })
-}
-
-fn told(p: &Program) -> String {
-    if p.memory.len() < 80 {
-        return format!("{p:x?}");
-    }
-    format!("n {}, {} words, {} edge numbers", p.n, p.memory.len(), p.edges.len())
+    found.map_err(answer_of)
 }
 
 fn program(ops: &[Op]) -> Program {

@@ -5,8 +5,8 @@
 mod reference;
 mod common;
 
-use common::{padded, sort_edges, Program, Random};
-use post_guard::{raw, step, Ending, Fault, Guarded, Place, Refusal, State, Step, Stop, Technique, Verdict};
+use common::{answer_of, padded, sort_edges, told, Program, Random};
+use post_guard::{raw, step, Ending, Guarded, Refusal, State, Step, Stop, Technique, Verdict};
 use reference::rewrite::{rewrite, rewrite_flat, Rewritten};
 use reference::{checkers, checkers::Answer, decode, encode, is_successor, Op};
 use std::collections::BTreeSet;
@@ -146,13 +146,6 @@ fn compare(r: &mut Random, p: &Program, result: &Result<Rewritten, Answer>, lent
         assert!(places == expected, "flat, {number}, {lent:?} {}", told(p));
     }
     answer
-}
-
-fn told(p: &Program) -> String {
-    if p.memory.len() < 80 {
-        return format!("{p:x?}");
-    }
-    format!("n {}, {} words, {} edge numbers", p.n, p.memory.len(), p.edges.len())
 }
 
 fn result_of(p: &Program) -> Result<Rewritten, Answer> {
@@ -932,12 +925,8 @@ fn programs_with_guards() {
                 passed += 1;
                 guarded
             }
-            (Err(Fault { refusal, place }), Err((number, kind, at))) => {
-                let place = place.map_or((0, 0), |place| match place {
-                    Place::Edge(k) => (1, k as u64),
-                    Place::Address(a) => (2, a as u64),
-                });
-                assert_eq!((refusal.number(), place), (number, (kind, at)));
+            (Err(fault), Err(answer)) => {
+                assert_eq!(answer_of(fault), answer);
                 refused += 1;
                 continue;
             }

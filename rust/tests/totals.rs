@@ -4,8 +4,8 @@
 mod reference;
 mod common;
 
-use common::{accepted, damage, library, number_of, padded, parcel_of, repeat_edges, without_jumps, Program, Random};
-use post_guard::{raw, Fault, Freedom, Place};
+use common::{accepted, answer_of, damage, library, number_of, padded, parcel_of, repeat_edges, without_jumps, Program, Random};
+use post_guard::{raw, Freedom};
 use reference::figures::{self, Report};
 use reference::totals::{self, Added};
 use reference::{encode, Op, Technique, TECHNIQUES};
@@ -109,13 +109,9 @@ fn told(added: post_guard::Added) -> (u32, [u64; 2]) {
         post_guard::Added::Counted => (0, [0, 0]),
         post_guard::Added::WithoutJumps => (WITHOUT_JUMPS, [0, 0]),
         post_guard::Added::Unchanged => (UNCHANGED, [0, 0]),
-        post_guard::Added::Refused(Fault { refusal, place }) => {
-            let place = match place {
-                None => [0, 0],
-                Some(Place::Edge(k)) => [1, k as u64],
-                Some(Place::Address(a)) => [2, a as u64],
-            };
-            (refusal.number(), place)
+        post_guard::Added::Refused(fault) => {
+            let (number, kind, at) = answer_of(fault);
+            (number, [kind, at])
         }
     }
 }

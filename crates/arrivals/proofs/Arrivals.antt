@@ -1,15 +1,15 @@
 -- Where no path leads, no run arrives: the way of a run is a path from 0 to the pc (`integrity`'s `WaysArePaths`).
-use Rattle.std.proofs.Common.{ℕ, ◌≡◌, ◌≢◌, refl, sym, ap, subst, ◌∙◌, Bool, true, arith}
+use Rattle.std.proofs.Common.{ℕ, ◌≡◌, ◌≢◌, sym, ap, ◌∙◌, Bool, true}
 use mathlib.Core.List.{List, [], ◌∷◌, ◌++◌, Memᴰ}
-use Rattle.std.specs.Prelude.{Option, None, Ok, length}
+use Rattle.std.specs.Prelude.{None, Ok, length}
 use Rattle.isa.specs.declared.Technique.{Technique}
 use Rattle.graph.specs.Claim.{is_successor}
 use Rattle.graph.specs.Paths.{Path}
 use Rattle.graph.proofs.CodeWords.{successor_code}
 use Rattle.checker.specs.Verdicts.{verdict_of}
-use Rattle.integrity.specs.Calls.{Call, Event, trace}
+use Rattle.integrity.specs.Calls.{Event, trace}
 use Rattle.integrity.specs.Demand.{fresh}
-use Rattle.integrity.specs.Ways.{PathTo, OnWay, way_from}
+use Rattle.integrity.specs.Ways.{WayTo, OnWay, way_from}
 use Rattle.integrity.proofs.Ways.{ways_are_paths}
 use Rattle.paths.specs.Shortest.{NoPath, Shortest, InCode}
 use Rattle.arrivals.specs.Arrivals.{Absent, NeverArrives}
@@ -36,7 +36,7 @@ told : {t : Technique} {memory : List ℕ} {n : ℕ} {edges : List ℕ} {address
 told (Shortest.Inside ok l (InCode.Unreachable none)) = (ok, none)
 
 module _ (code checked edges : List ℕ) (address : ℕ) (none : NoPath (is_successor (code ++ checked) (length code) edges) address) where
-  elsewhere : {a : ℕ} {way : List ℕ} → PathTo code edges a way → a ≢ address
+  elsewhere : {a : ℕ} {way : List ℕ} → WayTo code edges a way → a ≢ address
   elsewhere {way = way} path e = none way (path_by (λ p q f. successor_code code checked edges p q ∙ f) (rw e at path))
 
   absent : (way : List ℕ) (e : Event) → OnWay code edges way e → Absent address e

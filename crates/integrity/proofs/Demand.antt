@@ -11,11 +11,14 @@ use borrow.Author.Tests.{leb-true}
 use Rattle.lists.proofs.Bools.{clash, and_left, and_right}
 use Rattle.answers.specs.Shape.{memory_shaped}
 use Rattle.answers.proofs.Shape.{shaped}
+use Rattle.answers.specs.declared.Refusal.{Refusal}
+use Rattle.std.specs.Prelude.{Ok, Err}
+use Rattle.machine.specs.declared.State.{State}
 use Rattle.isa.specs.declared.Technique.{Technique}
 use Rattle.machine.specs.Numbers.{outcome_number}
 use Rattle.machine.specs.Steps.{stack_places, state_of, depth_fits}
 use Rattle.bus.specs.declared.RegisterWritten.{RegisterWritten}
-use Rattle.bus.specs.Bus.{in_data, write_data_memory, write_register_of}
+use Rattle.bus.specs.Bus.{in_data, write_data_memory, writable, write_register_of}
 use Rattle.checker.specs.Conditions.{Conditions}
 use Rattle.checker.proofs.Equivalence.{accepted_exactly}
 use Rattle.integrity.specs.Calls.{Call, Config, config, Event, after_call, trace}
@@ -23,6 +26,24 @@ use Rattle.integrity.specs.Demand.{fresh, Held, Demand3, FourAtJump, StopFourAtJ
 use Rattle.integrity.proofs.Inside.{Inv}
 use Rattle.integrity.proofs.Steps.{step_good}
 use Rattle.integrity.proofs.Traversal.{Carries, Alone, EachOf, all_member, traced}
+
+-- a bus write to a register leaves pc, depth and stack as they are
+pub registers_alone : (s : State) (register word : ℕ)
+    → (regs : List ℕ) × ((write_register_of s register word).state ≡ state_of regs s.pc s.depth s.stack)
+unfolding write_register_of
+registers_alone s register word = go (depth_fits s.depth) (writable register)
+  where
+    left : RegisterWritten → Type 0
+    left r = (regs : List ℕ) × (r.state ≡ state_of regs s.pc s.depth s.stack)
+
+    go : (d b : Bool)
+        → left
+        (cond d
+        (cond b (record { state = state_of (set s.regs register word) s.pc s.depth s.stack; answer = Ok tt }) (record { state = s; answer = Err Refusal.NotRegister }))
+        (record { state = s; answer = Err Refusal.Shape }))
+    go false b = (s.regs, refl)
+    go true true = (set s.regs register word, refl)
+    go true false = (s.regs, refl)
 
 module _ (t : Technique) (code checked edges : List ℕ) (ok : Conditions t (code ++ checked) (length code) edges) where
   abbrev pub Kept : Config → Type 0

@@ -2,7 +2,7 @@
 -- to the latest on the stack, goes to the first of them. Only call and ret touch either; the rest is that the word executed is the checked
 -- one (`Steps`).
 use Prim.Native.Nat.{ℕ, zero, suc, ◌+◌, ◌-◌, ◌≤◌, ◌<◌}
-use mathlib.Core.Path.{◌≡◌, refl, sym, ap, subst, ◌∙◌}
+use mathlib.Core.Path.{◌≡◌, refl, sym, ap, subst}
 use mathlib.Core.Bool.{Bool, true, false, cond}
 use Rattle.std.specs.Prelude.{Result, Ok, Err}
 use mathlib.Core.List.{List, [], ◌∷◌, ◌++◌}
@@ -19,18 +19,15 @@ use Rattle.machine.specs.declared.Stop.{Stop}
 use Rattle.machine.specs.declared.State.{State}
 use Rattle.machine.specs.declared.Effect.{Effect}
 use Rattle.machine.specs.declared.Stepped.{Stepped}
-use Rattle.machine.specs.Steps.{step_of, state_of, depth_fits, next_allowed, stack_places, latest_of, load_of, store_of, call_of, return_of, effect_of, settle_of, next_in, after_of}
+use Rattle.machine.specs.Steps.{step_of, next_allowed, stack_places, latest_of, load_of, store_of, call_of, return_of, effect_of, settle_of, next_in, after_of}
 use Rattle.machine.specs.Runs.{if_made}
-use Rattle.answers.specs.declared.Refusal.{Refusal}
-use Rattle.bus.specs.declared.RegisterWritten.{RegisterWritten}
-use Rattle.bus.specs.Bus.{writable, write_register_of}
 use Rattle.checker.specs.Conditions.{Conditions}
 use Rattle.checker.proofs.Equivalence.{accepted_exactly}
 use Rattle.integrity.specs.Calls.{Config, Event}
 use Rattle.integrity.specs.Demand.{fresh}
 use Rattle.integrity.specs.Home.{pending_by, pending_after, pending_from, Latest, ReturnsHome}
 use Rattle.integrity.proofs.Steps.{code_word, step_settles, step_good}
-use Rattle.integrity.proofs.Demand.{Kept, at_start, after_data, after_register}
+use Rattle.integrity.proofs.Demand.{Kept, registers_alone, at_start, after_data, after_register}
 use Rattle.integrity.proofs.Traversal.{Along, Carries, all_place, carried, traced}
 
 -- the first `depth` addresses of a stack, the latest first
@@ -54,24 +51,6 @@ taken : (depth : ℕ) (stack : List ℕ) → 0 < depth
     → latest_first depth stack ≡ latest_of depth stack ∷ latest_first (depth - 1) stack
 taken zero stack h = clash (omega (arith, h))
 taken (suc d) stack h = let same : suc d - 1 ≡ d = omega arith in rw same refl
-
--- a bus write reaches neither
-same_stack : (s : State) (register word : ℕ)
-    → latest_first (write_register_of s register word).state.depth (write_register_of s register word).state.stack ≡ latest_first s.depth s.stack
-unfolding write_register_of
-same_stack s register word = go (depth_fits s.depth) (writable register)
-  where
-    kept : RegisterWritten → Type 0
-    kept r = latest_first r.state.depth r.state.stack ≡ latest_first s.depth s.stack
-
-    go : (d b : Bool)
-        → kept
-        (cond d
-        (cond b (record { state = state_of (set s.regs register word) s.pc s.depth s.stack; answer = Ok tt }) (record { state = s; answer = Err Refusal.NotRegister }))
-        (record { state = s; answer = Err Refusal.Shape }))
-    go false b = refl
-    go true true = refl
-    go true false = refl
 
 -- What a step of an instruction says of the addresses pending before it: a ret made goes to the latest, and the stack agrees afterwards.
 module _ (t : Technique) (n : ℕ) (m : List ℕ) (s : State) where
@@ -192,7 +171,7 @@ module _ (t : Technique) (code checked edges : List ℕ) (ok : Conditions t (cod
         stepping = λ pending c a. let h = step_home pending c a in (h.0, ((step_good t code checked edges ok c a.0).1, h.1));
         data_write = λ pending c address word a. (after_data t code checked edges ok c address word a.0, a.1);
         register_write = λ pending c register word a.
-            (after_register t code checked edges ok c register word a.0, a.1 ∙ sym (same_stack c.state register word));
+            (after_register t code checked edges ok c register word a.0, rw (registers_alone c.state register word).1 a.1);
       }
 
 pub returns_home : ReturnsHome

@@ -2,7 +2,7 @@
 use Prim.Native.Nat.{ℕ, ◌+◌, ◌-◌, ◌≤◌, ◌<◌}
 use mathlib.Core.Path.{◌≡◌, refl, sym, ap, subst, ◌∙◌}
 use mathlib.Core.Logic.{inl, inr}
-use mathlib.Core.Bool.{Bool, true, false, cond, ◌&&◌, or-true}
+use mathlib.Core.Bool.{Bool, true, false, cond, or-true}
 use Rattle.std.specs.Prelude.{Some, Result, Ok, Err}
 use mathlib.Core.List.{List, ◌++◌}
 use native.Mathlib.Omega.{arith}
@@ -12,7 +12,6 @@ use lib.ListN.{length, get_or, set, take, length-set, get_or-append}
 use lib.Seq.{get_or-take, get_or-set_same, get_or-set_other, take-set-le, take-append_seam}
 use borrow.Author.Tests.{ltb-false, lt-ltb, ltb-true, leb-true, le-leb, eq-eqb}
 use Rattle.lists.proofs.Bools.{clash, and_left, both_true, true_false}
-use Rattle.lists.proofs.Search.{any_ext}
 use Rattle.isa.specs.declared.Instr.{Instr}
 use Rattle.isa.specs.declared.Technique.{Technique}
 use Rattle.isa.specs.Words.{decode_of}

@@ -1,44 +1,22 @@
 -- The way of a run is a path: by demand 3 each step made leads to a successor, and a bus write leaves the pc as it is.
 use Prim.Native.Nat.{ℕ}
 use mathlib.Core.Path.{◌≡◌, refl}
-use mathlib.Core.Bool.{Bool, true, false, cond}
 use mathlib.Core.List.{List, [], ◌∷◌, ◌++◌}
-use lib.ListN.{length, set}
+use lib.ListN.{length}
 use Rattle.std.specs.Prelude.{Ok, Err}
 use Rattle.lists.proofs.Bools.{clash}
-use Rattle.answers.specs.declared.Refusal.{Refusal}
 use Rattle.isa.specs.declared.Technique.{Technique}
-use Rattle.machine.specs.declared.State.{State}
 use Rattle.machine.specs.Numbers.{Outcome}
 use Rattle.machine.specs.Runs.{if_made}
-use Rattle.machine.specs.Steps.{state_of, depth_fits}
-use Rattle.bus.specs.declared.RegisterWritten.{RegisterWritten}
-use Rattle.bus.specs.Bus.{writable, write_register_of}
 use Rattle.graph.specs.Paths.{Path}
 use Rattle.checker.specs.Conditions.{Conditions}
 use Rattle.checker.proofs.Equivalence.{accepted_exactly}
 use Rattle.integrity.specs.Calls.{Config, Event, outcome_at, after_step}
 use Rattle.integrity.specs.Demand.{fresh, StepHeld}
-use Rattle.integrity.specs.Ways.{way_after, way_from, PathTo, OnWay, WaysArePaths}
+use Rattle.integrity.specs.Ways.{way_after, way_from, WayTo, OnWay, WaysArePaths}
 use Rattle.integrity.proofs.Steps.{step_good}
-use Rattle.integrity.proofs.Demand.{Kept, at_start, after_data, after_register}
+use Rattle.integrity.proofs.Demand.{Kept, registers_alone, at_start, after_data, after_register}
 use Rattle.integrity.proofs.Traversal.{Along, Carries, all_place, carried, traced}
-
-same_pc : (s : State) (register word : ℕ) → (write_register_of s register word).state.pc ≡ s.pc
-unfolding write_register_of
-same_pc s register word = go (depth_fits s.depth) (writable register)
-  where
-    kept : RegisterWritten → Type 0
-    kept r = r.state.pc ≡ s.pc
-
-    go : (d b : Bool)
-        → kept
-        (cond d
-        (cond b (record { state = state_of (set s.regs register word) s.pc s.depth s.stack; answer = Ok tt }) (record { state = s; answer = Err Refusal.NotRegister }))
-        (record { state = s; answer = Err Refusal.Shape }))
-    go false b = refl
-    go true true = refl
-    go true false = refl
 
 -- the walk carries the way along
 abbrev along : Along (List ℕ)
@@ -51,10 +29,10 @@ carried_way way (e ∷ events) = carried_way (way_after way e) events
 module _ (t : Technique) (code checked edges : List ℕ) (ok : Conditions t (code ++ checked) (length code) edges) where
   -- the invariant of demand 3, and that the way leads to the pc
   abbrev Leads : List ℕ → Config → Type 0
-  Leads way c = Kept t code checked edges ok c × PathTo code edges c.state.pc way
+  Leads way c = Kept t code checked edges ok c × WayTo code edges c.state.pc way
 
-  led : (way : List ℕ) (c d : Config) (o : Outcome) → PathTo code edges c.state.pc way → StepHeld t code edges c o d
-      → PathTo code edges d.state.pc (if_made o (way ++ d.state.pc ∷ []) way)
+  led : (way : List ℕ) (c d : Config) (o : Outcome) → WayTo code edges c.state.pc way → StepHeld t code edges c o d
+      → WayTo code edges d.state.pc (if_made o (way ++ d.state.pc ∷ []) way)
   led way c d (Ok _) p h = Path.On p (h.lands_on_edge refl)
   led way c d (Err halt) p h = rw (h.stop_changes_nothing (λ made. clash (cc))) p
 
@@ -68,7 +46,7 @@ module _ (t : Technique) (code checked edges : List ℕ) (ok : Conditions t (cod
             ((l.1, p), (good.1, p));
         data_write = λ way c address word l. (after_data t code checked edges ok c address word l.0, l.1);
         register_write = λ way c register word l.
-            (after_register t code checked edges ok c register word l.0, rw (same_pc c.state register word) l.1);
+            (after_register t code checked edges ok c register word l.0, rw (registers_alone c.state register word).1 l.1);
       }
 
 pub ways_are_paths : WaysArePaths

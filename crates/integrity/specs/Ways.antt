@@ -19,14 +19,14 @@ way_from way [] = way
 way_from way (e ∷ events) = way_from (way_after way e) events
 
 -- a path from 0 in the graph of the code
-abbrev pub PathTo : List ℕ → List ℕ → ℕ → List ℕ → Type 0
-PathTo code edges a way = Path (is_successor code (length code) edges) 0 a way
+abbrev pub WayTo : List ℕ → List ℕ → ℕ → List ℕ → Type 0
+WayTo code edges a way = Path (is_successor code (length code) edges) 0 a way
 
 -- the way so far leads to where the machine stands, and a step made leads on
 abbrev pub OnWay : List ℕ → List ℕ → List ℕ → Event → Type 0
-OnWay code edges way (Event.Stands c) = PathTo code edges c.state.pc way
+OnWay code edges way (Event.Stands c) = WayTo code edges c.state.pc way
 OnWay code edges way (Event.Tried before outcome after) =
-    PathTo code edges before.state.pc way × PathTo code edges after.state.pc (way_after way (Event.Tried before outcome after))
+    WayTo code edges before.state.pc way × WayTo code edges after.state.pc (way_after way (Event.Tried before outcome after))
 
 -- Over an accepted program, in every list of steps, runs and bus writes from a fresh state: at any place of the trace, the way that the
 -- events before it make is a path from 0 to the pc.

@@ -11,10 +11,9 @@ use Rattle.isa.specs.Instructions.{instr_at, is_jump}
 use Rattle.graph.specs.Claim.{edge_count, jump_of, has_edge, successor_by, is_successor}
 use Rattle.rising.specs.Rising.{Rising}
 use Rattle.rising.proofs.Rising.{clean_rising}
-use Rattle.checker.proofs.Runs.{Cut}
 use Rattle.paths.specs.declared.reached.Reached.{Reached}
 use Rattle.paths.specs.declared.program.Program.{Program}
-use Rattle.paths.specs.Given.{Firsts}
+use Rattle.paths.specs.Given.{FirstOf, Firsts}
 use Rattle.paths.specs.Inside.{at, Front, follows_in}
 use Rattle.lists.proofs.Search.{any_witness}
 use Rattle.paths.proofs.Queues.{queue_few}
@@ -77,9 +76,9 @@ module _ (program : Program) {r : Reached} {head : ℕ} (p : ℕ) (d : Instr) (a
       by_word d refl q ∙ ap (λ (x : Bool). ltb q program.n && x) (falls program.memory.now program.n program.edges.now p d b j m c t i q)
 
   -- a jmp has a first edge, since it has one
-  pub first_there : (firsts : List ℕ) (rs : ℕ) → d ≡ Instr.Jmp rs → Firsts program.edges.now firsts → Cut program.edges.now p (get_or firsts p 0)
+  pub first_there : (firsts : List ℕ) (rs : ℕ) → d ≡ Instr.Jmp rs → Firsts program.edges.now firsts → FirstOf program.edges.now p (get_or firsts p 0)
   unfolding has_edge
   first_there firsts rs j h =
       let low : p < program.n = omega (arith, at_p, front.queue.inside head l) in
       let w = any_witness (λ k. eqb (jump_of program.edges.now k) p) (edge_count program.edges.now) (program.searchable.leaving p low (ap is_jump (sym decoded ∙ j))) in
-      subst (λ (x : ℕ). Cut program.edges.now x (get_or firsts x 0)) (eqb-true _ _ w.2) (h w.0 w.1)
+      subst (λ (x : ℕ). FirstOf program.edges.now x (get_or firsts x 0)) (eqb-true _ _ w.2) (h w.0 w.1)

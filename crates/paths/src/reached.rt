@@ -7,9 +7,9 @@ ghost use Rattle.paths.specs.Inside.{at, start_of, note_of, Sizes, Back, Trail, 
 // addresses are there.
 #[derive(Drop)]
 pub(crate) struct Reached {
-    pub(crate) queue: [u16; 2048],
-    pub(crate) before: [u16; 2048],
-    pub(crate) noted: [bool; 2048],
+    queue: [u16; 2048],
+    before: [u16; 2048],
+    noted: [bool; 2048],
     pub(crate) len: usize,
 }
 

@@ -1,6 +1,6 @@
 // The library for C and Rust, libpost_guard.a: the calls of `capi`, `owner`, `wide`, `installer` and `manager` under the names that
-// `include/post_guard.h` declares, each with the contract of the call that it makes. C needs a name for each, and lends each place by itself: so the lists of
-// parameters are long, and calls are alike.
+// `include/post_guard.h` declares, each with the contract of the call that it makes. C needs a name for each, and lends each place by itself:
+// so the lists of parameters are long, and calls are alike.
 #![tactic(auto)]
 
 ghost use Rattle.std.specs.Prelude.{◌≡◌};

@@ -1,6 +1,7 @@
 //! Random inputs with fixed seeds: words, and programs that are accepted before they are damaged.
 #![allow(dead_code)]
 
+use crate::reference::checkers::Answer;
 use crate::reference::{encode, shaped, Op, Technique};
 use std::collections::BTreeSet;
 
@@ -18,6 +19,24 @@ pub fn library(technique: Technique) -> post_guard::Technique {
         Technique::Plain => post_guard::Technique::Plain,
         Technique::MemoryGuards => post_guard::Technique::MemoryGuards,
     }
+}
+
+/// a fault of the wrapper, as the reference has it
+pub fn answer_of(fault: post_guard::Fault) -> Answer {
+    let number = fault.refusal.number();
+    match fault.place {
+        None => (number, 0, 0),
+        Some(post_guard::Place::Edge(k)) => (number, 1, k as u64),
+        Some(post_guard::Place::Address(a)) => (number, 2, a as u64),
+    }
+}
+
+/// a program for the message of a test that fails: in full where it is short
+pub fn told(p: &Program) -> String {
+    if p.memory.len() < 80 {
+        return format!("{p:x?}");
+    }
+    format!("n {}, {} words, {} edge numbers", p.n, p.memory.len(), p.edges.len())
 }
 
 /// A xorshift generator.
