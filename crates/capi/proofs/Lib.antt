@@ -1,3 +1,4 @@
+pub mod Words
 pub mod Rooms
 pub mod Puts
 pub mod Parcels

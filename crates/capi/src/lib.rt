@@ -3,14 +3,15 @@
 #![tactic(auto)]
 
 ghost use Rattle.std.specs.Prelude.{◌≡◌, cond, ◌||◌, ◌++◌, drop, length, ltb, MatchResult};
-ghost use Rattle.capi.specs.Words.{DecodeCall, encode_call, too_short};
+ghost use Rattle.isa.specs.Words.{fields_of, decode_of};
+ghost use Rattle.capi.specs.Words.{DecodeCall, numbers_of, encode_call, too_short};
 ghost use Rattle.capi.specs.States.{technique_of, stop_answer, outcome_answer, StepCall, RunCall, WriteDataCall, WriteRegisterCall};
 ghost use Rattle.capi.specs.Inside.{Ordered, RunNumber};
 ghost use Rattle.capi.specs.Checks.{answer_number, answer_place, place_numbers, place_after, AnswerPut, CheckCall};
 ghost use Rattle.capi.specs.Parcels.{ReadPut, ReadCall, WriteCall, WritePlacedCall, WrittenPut};
 
 use answers::{Fault, Place, Refusal};
-use isa::Technique;
+use isa::{Fields, Technique};
 use machine::{Halt, STATE_WORDS, Stop};
 use parcel::{Counts, InBytes};
 use rising::EdgeNumber;
@@ -21,13 +22,22 @@ pub fn pg_decode(word: u64, place: &mut [u32]) -> u32
     if place.len() < 5 {
         return too_short();
     }
-    let f = isa::fields_of_word(word);
-    let opcode = u32::from(u8::from(f.kind));
-    put(
-        place,
-        [opcode, u32::from(f.a), u32::from(f.b), u32::from(f.c), f.w],
-    );
+    put(place, numbers_of(word));
     0
+}
+
+// An instruction's opcode, a, b, c and w; an illegal word has opcode 255 and zeros. The opcode is read off the word: by way of its kind
+// the call takes a third longer (docs/PERFORMANCE.md).
+#[tactic(auto, using(crate::proofs::Words::legal_numbers, crate::proofs::Words::illegal_numbers))]
+fn numbers_of(word: u64) -> [u32; 5]
+    ensures { result ≡ numbers_of (fields_of (decode_of word)) }
+{
+    if isa::is_illegal(word) {
+        return [255, 0, 0, 0, 0];
+    }
+    let opcode = (word / 0x100_0000_0000_0000) as u32;
+    let f = Fields::of_word(word);
+    [opcode, u32::from(f.a), u32::from(f.b), u32::from(f.c), f.w]
 }
 
 pub fn pg_encode(opcode: u8, a: u8, b: u8, c: u8, w: u32) -> u64

@@ -3,9 +3,8 @@ use crate::edges::Edge;
 use crate::plan::{Item, Plan};
 use crate::program::{Program, Size};
 use crate::random::Random;
-use crate::sequences::{Guard, RANGE_TEST, after_jump_first, before_jump_guard};
+use crate::sequences::{Guard, RANGE_TEST, Technique, after_jump_first, before_jump_guard};
 use crate::words::{Fields, Kind, ONES, low, word};
-use isa::Technique;
 
 pub(crate) fn build(technique: Technique, program: &mut Program, random: &mut Random) {
     let plan = Plan::random(technique, random);

@@ -6,12 +6,12 @@ use crate::edges::{edge_at, pairs};
 use crate::pending::Pending;
 use crate::random::Random;
 use crate::second::Code;
+use crate::sequences::Technique;
 use crate::tally::Tally;
 use crate::words;
 use crate::words::{Kind, ONES};
 use answers::Refusal;
-use isa::Technique;
-use machine::{Halt, Ran, State, Stop};
+use machine::{Halt, Ran, State};
 use std::array;
 
 // Forty calls on a state with random registers.
@@ -72,7 +72,7 @@ impl Walk<'_> {
         let by_steps = self.walk(limit, &mut course.tally);
         let code = self.code;
         let state = self.state;
-        let ran = machine::run(code.technique, state, self.twin, code.n, limit);
+        let ran = machine::run(code.technique.asked(), state, self.twin, code.n, limit);
         let same = self.same_memories() && ran == by_steps;
         course.tally.runs.add(true);
         course.tally.wrong_runs.add(!same);
@@ -85,7 +85,7 @@ impl Walk<'_> {
         let mut state = self.state;
         for count in 0..limit {
             let pc = state.pc as usize;
-            let stepped = machine::step(code.technique, state, self.memory, code.n);
+            let stepped = machine::step(code.technique.asked(), state, self.memory, code.n);
             state = stepped.state;
             tally.code_changed.add(!self.keeps_code());
             if let Err(halt) = stepped.outcome {
@@ -126,28 +126,29 @@ impl Walk<'_> {
 
     fn hold_stop(&self, tally: &mut Tally, pc: usize, halt: Halt) {
         tally.stops.add(true);
-        tally.fours.add(halt == Halt::Stopped(Stop::Next));
-        tally.fives.add(halt == Halt::Stopped(Stop::Full));
-        tally.sixes.add(halt == Halt::Stopped(Stop::Empty));
-        tally.wrong_stops.add(!self.stop_allowed(pc, halt));
+        let stop = stop_number(halt);
+        tally.fours.add(stop == Some(4));
+        tally.fives.add(stop == Some(5));
+        tally.sixes.add(stop == Some(6));
+        tally.wrong_stops.add(!self.stop_allowed(pc, stop));
     }
 
     // "With memory guards, every step in it that cannot be made gives stop 2, or stop 3 with a load at the pc", or 5 or 6: "a program
     // may meet these two as well" (document 02, K8). "An accepted plain program then meets stop 4 at a jmp only." 5 is for a call with
     // 128 before it that are not returned from, 6 for a ret with none.
-    fn stop_allowed(&self, pc: usize, halt: Halt) -> bool {
+    fn stop_allowed(&self, pc: usize, stop: Option<u8>) -> bool {
         let kind = self.code.kind(pc);
-        let Halt::Stopped(stop) = halt else {
+        let Some(number) = stop else {
             return false;
         };
-        match (self.code.technique, stop) {
-            (_, Stop::Full) => kind == Some(Kind::Call) && self.pending.is_full(),
-            (_, Stop::Empty) => kind == Some(Kind::Ret) && self.pending.is_empty(),
-            (Technique::MemoryGuards, Stop::Illegal) => true,
-            (Technique::MemoryGuards, Stop::Access) => kind == Some(Kind::Ld),
+        match (self.code.technique, number) {
+            (_, 5) => kind == Some(Kind::Call) && self.pending.is_full(),
+            (_, 6) => kind == Some(Kind::Ret) && self.pending.is_empty(),
+            (Technique::MemoryGuards, 2) => true,
+            (Technique::MemoryGuards, 3) => kind == Some(Kind::Ld),
             (Technique::MemoryGuards, _) => false,
-            (Technique::Plain, Stop::Next) => kind == Some(Kind::Jmp),
-            (Technique::Plain, _) => true,
+            (Technique::Plain, 4) => kind == Some(Kind::Jmp),
+            (Technique::Plain, _) => number < 4,
         }
     }
 
@@ -172,7 +173,7 @@ impl Walk<'_> {
         let right = if (3..=31).contains(&register) {
             Ok(())
         } else {
-            Err(Refusal::NotRegister)
+            Err(17)
         };
         hold_write(&mut course.tally, written.answer, right, true);
         self.state = written.state;
@@ -215,23 +216,27 @@ fn write_data(tally: &mut Tally, memory: &mut [u64], n: usize, address: u64, wor
     let right = if (n..memory.len()).contains(&at) {
         Ok(())
     } else {
-        Err(Refusal::NotData)
+        Err(16)
     };
     let answer = bus::write_data(memory, n, address, word);
     let there = words::at(memory, at) == word;
     hold_write(tally, answer, right, there);
 }
 
-// A write was answered, and should have been answered so; where it was made the word must be there.
-fn hold_write(
-    tally: &mut Tally,
-    answer: Result<(), Refusal>,
-    right: Result<(), Refusal>,
-    there: bool,
-) {
+// A write was answered, and should have been answered so, by its number; where it was made the word must be there.
+fn hold_write(tally: &mut Tally, answer: Result<(), Refusal>, right: Result<(), u8>, there: bool) {
+    let number = answer.map_err(|refusal| u8::from(refusal));
     tally.writes.add(true);
-    tally.refused_writes.add(answer.is_err());
+    tally.refused_writes.add(number.is_err());
     tally
         .wrong_writes
-        .add(answer != right || answer.is_ok() && !there);
+        .add(number != right || number.is_ok() && !there);
+}
+
+// The number of a stop; a refusal has none.
+fn stop_number(halt: Halt) -> Option<u8> {
+    match halt {
+        Halt::Stopped(stop) => Some(u8::from(stop)),
+        Halt::Refused(_) => None,
+    }
 }

@@ -3,10 +3,10 @@ use crate::build::build;
 use crate::calls::hold_list;
 use crate::program::Program;
 use crate::random::Random;
-use crate::second::{Code, Finding};
+use crate::second::{Code, Finding, Place};
+use crate::sequences::Technique;
 use crate::tally::Tally;
 use answers::Verdict;
-use isa::Technique;
 
 // What has been counted so far, and what is drawn next.
 #[derive(Drop)]
@@ -54,7 +54,7 @@ impl Course {
 
     // Both checkers on one code; a list of calls too, where it is accepted.
     fn compare(&mut self, code: Code) {
-        let first = checker::check(code.technique, code.memory, code.n, code.edges);
+        let first = checker::check(code.technique.asked(), code.memory, code.n, code.edges);
         let second = code.check();
         self.tally.disagreements.add(!agree(first, second));
         match second {
@@ -80,8 +80,17 @@ fn agree(verdict: Verdict, second: Result<(), Finding>) -> bool {
     match (verdict, second) {
         (Ok(()), Ok(())) => true,
         (Err(fault), Err(finding)) => {
-            u8::from(fault.refusal) == finding.fault as u8 && fault.place == finding.place
+            u8::from(fault.refusal) == finding.fault as u8 && same(fault.place, finding.place)
         }
+        _ => false,
+    }
+}
+
+fn same(first: answers::Place, second: Place) -> bool {
+    match (first, second) {
+        (answers::Place::Nowhere, Place::Nowhere) => true,
+        (answers::Place::Edge(j), Place::Edge(k)) => j == k,
+        (answers::Place::Address(a), Place::Address(b)) => a == b,
         _ => false,
     }
 }

@@ -1,7 +1,6 @@
 // The plan of a random guarded program: what stands at each address.
 use crate::random::Random;
-use crate::sequences::{after_jump_first, after_store_first};
-use isa::Technique;
+use crate::sequences::{Technique, after_jump_first, after_store_first};
 
 // What a plan says of an address. A label, a jump and the word that aims its register go with a target set.
 #[derive(Clone, Copy, PartialEq, Eq)]

@@ -1,11 +1,9 @@
 // The checker a second time, naive and direct: document 01, "Claimed graph", "Conditions" and "Numbers given", with K2, K3 and K8
 // of document 02, each condition by its own words, sets by nested loops over the edges and guards by comparing words.
 use crate::edges::pairs;
-use crate::sequences::{Guard, RANGE_TEST, after_first, before_jump_guard};
+use crate::sequences::{Guard, RANGE_TEST, Technique, after_first, before_jump_guard};
 use crate::words;
 use crate::words::{Fields, Kind};
-use answers::Place;
-use isa::Technique;
 
 // What may be wrong, with the numbers given.
 #[derive(Clone, Copy)]
@@ -45,6 +43,14 @@ impl Fault {
             None => Ok(()),
         }
     }
+}
+
+// Where a fault is: at an edge, from 0, at an address, or nowhere.
+#[derive(Clone, Copy)]
+pub(crate) enum Place {
+    Nowhere,
+    Edge(usize),
+    Address(usize),
 }
 
 // A fault, and the place that goes with it.

@@ -2,7 +2,23 @@
 ghost use Rattle.std.specs.Prelude.{◌≤◌};
 
 use crate::words::{Kind, low, word};
-use isa::Technique;
+
+// The techniques a second time, so that nothing is shared with the first checker.
+#[derive(Clone, Copy)]
+pub(crate) enum Technique {
+    Plain,
+    MemoryGuards,
+}
+
+impl Technique {
+    // What the calls that are compared take for it.
+    pub(crate) fn asked(self) -> isa::Technique {
+        match self {
+            Self::Plain => isa::Technique::Plain,
+            Self::MemoryGuards => isa::Technique::MemoryGuards,
+        }
+    }
+}
 
 // What the words of a guard name: the last address of code is HALT, r0 is held between low and high, a label is held to be ID.
 #[derive(Clone, Copy)]

@@ -5,15 +5,12 @@ use mathlib.Core.Bool.{◌||◌}
 use mathlib.Core.List.{List, [], ◌∷◌}
 use Prim.Native.Nat.{ℕ, zero, suc, ◌+◌, ◌-◌, ◌*◌, ◌/◌, ◌%◌, ◌≤◌, ◌<◌}
 use native.Mathlib.Omega.{arith}
-use native.Mathlib.Decide.{dec_lt}
-use native.Mathlib.Nat.{zero-mul, suc-mul, add-mul, mul_assoc, add_comm}
-use lib.Dec.{ltb, leb}
-use lib.ListN.{length, get_or, set, take, drop}
-use lib.Seq.{drop-drop, get_or-drop, sets}
+use native.Mathlib.Nat.{add-zero, zero-mul, suc-mul, add-mul, mul_assoc, add_comm}
+use lib.Dec.{leb}
+use lib.ListN.{length, get_or, set, take, drop, length-set, drop_of_length-le}
+use lib.Seq.{drop-drop, drop-cons, get_or-drop, sets}
 use Rattle.std.proofs.lemmas.List.{take_rest}
-use borrow.Author.Tests.{lt-ltb, le-ltb, lt-leb, le-leb}
 use Rattle.parcel.specs.Bytes.{number_of, bytes_of, numbers_of, all_bytes_of}
-use Rattle.parcel.specs.Theorems.{AllBelow}
 use Rattle.parcel.proofs.Numbers.{number_halves, number_byte}
 use Rattle.parcel.proofs.Runs.{length_numbers, Writing, writing_goes_on, writing_ends}
 use Rattle.editions.specs.Converters.{is_wide}
@@ -29,6 +26,28 @@ number_at w (suc k) s zero l = ap (λ (n : ℕ). number_of w (drop n s)) (sym (z
 number_at w (suc k) s (suc i) l =
     number_at w k (drop w s) i (omega arith)
     ∙ ap (number_of w) (drop-drop (i * w) w s ∙ ap (λ (n : ℕ). drop n s) (add_comm w (i * w) ∙ sym (suc-mul i w)))
+
+-- ---- bytes as they are: what is still to be stored, from i on, makes the whole
+
+pub record Copying (s : List ℕ) (at : ℕ) (t₀ t : List ℕ) (i : ℕ) : Type 0 where
+  pub same : sets t₀ at s ≡ sets t (at + i) (drop i s)
+  pub long : length t ≡ length t₀
+
+pub copying_starts : (s : List ℕ) (at : ℕ) (t : List ℕ) → Copying s at t t 0
+copying_starts s at t = record { same = ap (λ (n : ℕ). sets t n s) (sym (add-zero at)); long = refl }
+
+pub copying_goes_on : {s : List ℕ} {at : ℕ} {t₀ t t' : List ℕ} {i : ℕ} → Copying s at t₀ t i → i < length s → t' ≡ set t (at + i) (get_or s i 0)
+    → Copying s at t₀ t' (i + 1)
+copying_goes_on {s} {at} {t₀} {t} {t'} {i} inv l e =
+    let next : suc (at + i) ≡ at + (i + 1) = omega arith in
+    let one : suc i ≡ i + 1 = omega arith in
+    record {
+      same = inv.same ∙ ap (λ (b : List ℕ). sets t (at + i) b) (drop-cons s i 0 l) ∙ (λ j. sets (sym e j) (next j) (drop (one j) s));
+      long = ap length e ∙ length-set t (at + i) (get_or s i 0) ∙ inv.long;
+    }
+
+pub copying_ends : {s : List ℕ} {at : ℕ} {t₀ t : List ℕ} {i : ℕ} → Copying s at t₀ t i → length s ≤ i → t ≡ sets t₀ at s
+copying_ends {s} {at} {t₀} {t} {i} inv l = sym (inv.same ∙ ap (λ (b : List ℕ). sets t (at + i) b) (drop_of_length-le s l))
 
 -- ---- the loop: i of the k numbers of w bytes in s are stored, v bytes each
 
@@ -53,6 +72,12 @@ two_bytes s = sym (number_halves 1 s 0 (number_byte s 0) (number_byte s 1))
 four_bytes : (s : List ℕ) → number_of 4 s ≡ number_of 2 s + number_of 2 (drop 2 s) * 65536
 four_bytes s = sym (number_halves 2 s 0 refl refl)
 
+pub number_bytes : (s : List ℕ) → number_of 4 s ≡ get_or s 0 0 + (get_or s 1 0 + (get_or s 2 0 + get_or s 3 0 * 256) * 256) * 256
+number_bytes s =
+    let high : number_of 2 (drop 2 s) ≡ get_or s 2 0 + get_or s 3 0 * 256 =
+    two_bytes (drop 2 s) ∙ (λ j. get_or-drop 2 s 0 0 j + get_or-drop 2 s 1 0 j * 256) in
+    omega (arith, four_bytes s, two_bytes s, high)
+
 -- two bytes of a number are those of its low half
 low_two : (a b m : ℕ) → bytes_of 2 (a + (b + 0 * 256) * 256) ≡ bytes_of 2 (a + (b + m * 256) * 256)
 unfolding bytes_of
@@ -70,16 +95,6 @@ low_bytes w v s (inl e) l = rw e
 low_bytes zero v s (inr e) l = absurd (omega arith)
 low_bytes (suc zero) v s (inr e) l = absurd (omega arith)
 low_bytes (suc (suc w)) v s (inr e) l = rw e (low_two (get_or s 0 0) (get_or (drop 1 s) 0 0) (number_of w (drop 1 (drop 1 s))))
-
--- it is above 65,535 where its high half is not 0
-high_half : (s : List ℕ) → AllBelow 256 s → leb 65536 (number_of 4 s) ≡ ltb 0 (number_of 2 (drop 2 s))
-high_half s below = go (dec_lt 0 (number_of 2 (drop 2 s)))
-  where
-    go : Dec (0 < number_of 2 (drop 2 s)) → leb 65536 (number_of 4 s) ≡ ltb 0 (number_of 2 (drop 2 s))
-    go (yes p) = le-leb 65536 (number_of 4 s) (omega (arith, four_bytes s)) ∙ sym (lt-ltb 0 (number_of 2 (drop 2 s)) p)
-    go (no p) =
-        lt-leb 65536 (number_of 4 s) (omega (arith, below 0, below 1, two_bytes s, four_bytes s))
-        ∙ sym (le-ltb 0 (number_of 2 (drop 2 s)) (omega arith))
 
 -- ---- a number of 16 bits is put as one of v bytes: i bytes of it are stored, and the others are zeros
 
@@ -143,21 +158,7 @@ converting_edge {w} {v} s {edges} {to₀} {start} {to} {to₁} {to₂} {k} {jump
 
 -- ---- the test of an edge
 
-or_sum : (a b : ℕ) → (ltb 0 a || ltb 0 b) ≡ ltb 0 (a + b)
-or_sum zero zero = refl
-or_sum zero (suc b) = lt-ltb 0 (suc b) (omega arith) ∙ sym (lt-ltb 0 (zero + suc b) (omega arith))
-or_sum (suc a) b = rw (lt-ltb 0 (suc a) (omega arith)) (sym (lt-ltb 0 (suc a + b) (omega arith)))
-
--- the two high halves
-pub edge_high : (s : List ℕ) → AllBelow 256 s → {x y : ℕ} → x ≡ number_of 2 (part_from 2 s) → y ≡ number_of 2 (part_from 6 s)
-    → ltb 0 (x + y) ≡ (leb 65536 (number_of 4 s) || leb 65536 (number_of 4 (drop 4 s)))
-edge_high s below p q =
-    let below' : AllBelow 256 (drop 4 s) = λ i. subst (λ (x : ℕ). x < 256) (sym (get_or-drop 4 s i 0)) (below (4 + i)) in
-    (λ j. ltb 0 ((p ∙ ap (number_of 2) (take_rest s 2)) j + (q ∙ ap (number_of 2) (take_rest s 6 ∙ sym (drop-drop 2 4 s))) j))
-    ∙ sym (or_sum (number_of 2 (drop 2 s)) (number_of 2 (drop 2 (drop 4 s))))
-    ∙ (λ j. sym (high_half s below) j || sym (high_half (drop 4 s) below') j)
-
--- it is that of the edge k
+-- that of the edge k
 pub edge_wide : (s : List ℕ) (edges k : ℕ) → k < edges
     → (leb 65536 (number_of 4 (part_from (k * 8) s)) || leb 65536 (number_of 4 (drop 4 (part_from (k * 8) s)))) ≡ is_wide (numbers_of 4 (edges * 2) s) k
 edge_wide s edges k l =

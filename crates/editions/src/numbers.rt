@@ -7,13 +7,15 @@ ghost use Rattle.lists.specs.Search.{first};
 ghost use Rattle.parcel.specs.Bytes.{number_of, bytes_of, numbers_of, all_bytes_of};
 ghost use Rattle.editions.specs.Converters.{is_wide};
 
-// The bytes, as they are, from start on.
-#[tactic(auto, using(lists::proofs::Places::put_part))]
+// The bytes, as they are, from start on. A loop, since for `copy_from_slice` the library would ask C for `memmove`.
+#[tactic(auto, using(crate::proofs::Converting::copying_starts, crate::proofs::Converting::copying_goes_on, crate::proofs::Converting::copying_ends))]
 pub(crate) fn copy(s: &[u8], to: &mut [u8], start: usize)
     requires { start + length s.now ≤ length to.old }
     ensures { to.new ≡ sets to.old start s.now }
 {
-    to[start..start + s.len()].copy_from_slice(s);
+    for i in 0..s.len() {
+        to[start + i] = s[i];
+    }
 }
 
 // The first edges, two numbers of W bytes each, as numbers of V: the low two bytes of each, and zeros. An edge is read whole before it
@@ -37,8 +39,10 @@ pub(crate) fn put_edges<const W: usize, const V: usize>(
     }
 }
 
-// Of the first edges, two numbers of four bytes each, the first with an address above 65,535.
+// Of the first edges, two numbers of four bytes each, the first with an address above 65,535. Not inlined: its loop is to hold nothing of
+// its caller's.
 #[tactic(auto, unfolding(lists::specs::Search::first))]
+#[inline(never)]
 pub(crate) fn first_wide(s: &[u8], edges: usize) -> Option<usize>
     requires { edges * 8 ≤ length s.now }
     ensures { result ≡ first (is_wide (numbers_of 4 (edges * 2) s.now)) edges }
@@ -52,16 +56,25 @@ fn is_wide_at(s: &[u8], edges: usize, k: usize) -> bool
     requires { (edges * 8 ≤ length s.now) × (k < edges) }
     ensures { result ≡ is_wide (numbers_of 4 (edges * 2) s.now) k }
 {
-    has_high_half(&s[k * 8..])
+    has_wide(&s[k * 8..])
 }
 
-// Whether one of the first two numbers of four bytes is above 65,535: its high half is not 0.
-#[tactic(auto, using(crate::proofs::Converting::edge_high))]
-fn has_high_half(s: &[u8]) -> bool
+// Whether one of the first two numbers of four bytes is above 65,535. Both are read whole: of their high halves each byte would be
+// tested by itself (docs/PERFORMANCE.md).
+fn has_wide(s: &[u8]) -> bool
     requires { 8 ≤ length s.now }
     ensures { result ≡ (leb 65536 (number_of 4 s.now) || leb 65536 (number_of 4 (drop 4 s.now))) }
 {
-    0 < u32::from(half(&s[2..])) + u32::from(half(&s[6..]))
+    (65536 <= number(s)) | (65536 <= number(&s[4..]))
+}
+
+// The number in the first four bytes.
+#[tactic(auto, using(crate::proofs::Converting::number_bytes))]
+fn number(s: &[u8]) -> u32
+    requires { 4 ≤ length s.now }
+    ensures { result ≡ number_of 4 s.now }
+{
+    u32::from_le_bytes([s[0], s[1], s[2], s[3]])
 }
 
 // The number in the first two bytes.

@@ -4,7 +4,7 @@
 
 mod bytes;
 
-use answers::{Fault, Place, Refusal};
+use answers::{Fault, Place};
 use bytes::{ROOM, Shape, UNTOUCHED_BYTE, UNTOUCHED_NUMBER, UNTOUCHED_WORD, begins};
 use std::{array, fmt, io};
 
@@ -53,16 +53,16 @@ fn limits() -> Rows {
     let mut rows = Rows::none();
     for (code, edges, data, answer) in [
         (1, 0, 0, Ok(())),
-        (0, 0, 0, Err(Refusal::CountLimit)),
+        (0, 0, 0, Err(2)),
         (2048, 0, 0, Ok(())),
-        (2049, 0, 0, Err(Refusal::CountLimit)),
+        (2049, 0, 0, Err(2)),
         (9, 1, 0, Ok(())),
         (1, 2048, 0, Ok(())),
-        (1, 2049, 0, Err(Refusal::CountLimit)),
+        (1, 2049, 0, Err(2)),
         (1, 0, 2048, Ok(())),
-        (1, 0, 2049, Err(Refusal::CountLimit)),
+        (1, 0, 2049, Err(2)),
         (2048, 2048, 2048, Ok(())),
-        (2048, 2048, 2049, Err(Refusal::CountLimit)),
+        (2048, 2048, 2049, Err(2)),
     ] {
         let shape = Shape::new(code, edges, data);
         rows.add(reads(shape, shape.size(), 4096, 4096, answer));
@@ -76,9 +76,7 @@ fn huge_counts() -> Rows {
     for at in [0, shape.edges_at(), shape.data_at()] {
         let bytes = shape.laid_with_huge(at);
         let parcel = bytes.get(..shape.size());
-        rows.add(parcel.is_some_and(|parcel| {
-            reads_so(shape, parcel, 4096, 4096, Err(Refusal::CountLimit))
-        }));
+        rows.add(parcel.is_some_and(|parcel| { reads_so(shape, parcel, 4096, 4096, Err(2)) }));
     }
     rows
 }
@@ -91,7 +89,7 @@ fn short_places() -> Rows {
         (Shape::new(2048, 2048, 2048), 4096, 4096),
     ] {
         let size = shape.size();
-        let short = Err(Refusal::PlaceTooShort);
+        let short = Err(5);
         rows.add(reads(shape, size, words, numbers, Ok(())));
         rows.add(reads(shape, size, words.wrapping_sub(1), numbers, short));
         rows.add(reads(shape, size, words, numbers.wrapping_sub(1), short));
@@ -116,18 +114,18 @@ fn cuts() -> Rows {
 }
 
 // Of three sections, the first whose count or whose items the bytes do not reach.
-fn answer_at(shape: Shape, size: usize) -> Result<(), Refusal> {
+fn answer_at(shape: Shape, size: usize) -> Result<(), u8> {
     if size > shape.size() {
-        return Err(Refusal::TrailingBytes);
+        return Err(4);
     }
     let starts = [0, shape.edges_at(), shape.data_at()];
     let ends = [shape.edges_at(), shape.data_at(), shape.size()];
     for (start, end) in starts.iter().zip(ends) {
         if size < start.wrapping_add(4) {
-            return Err(Refusal::CountMissing);
+            return Err(1);
         }
         if size < end {
-            return Err(Refusal::ItemsMissing);
+            return Err(3);
         }
     }
     Ok(())
@@ -151,11 +149,8 @@ fn not_written_back() -> Rows {
     let mut rows = Rows::none();
     for (code, edges, data) in [(9, 2, 0), (3, 5, 4), (2048, 2048, 2048)] {
         let shape = Shape::new(code, edges, data);
-        let fault = Fault {
-            refusal: Refusal::EdgeNotRising,
-            place: Place::Edge(usize::from(edges.wrapping_sub(1))),
-        };
-        rows.add(writes(shape, &shape.laid_with_repeat(), Err(fault)));
+        let last = Place::Edge(usize::from(edges.wrapping_sub(1)));
+        rows.add(writes(shape, &shape.laid_with_repeat(), Err((18, last))));
     }
     rows
 }
@@ -163,35 +158,29 @@ fn not_written_back() -> Rows {
 // The writer tests 6 first, then 18, then 5.
 fn refused_writes() -> Rows {
     let mut rows = Rows::none();
-    for (len, n, numbers, last, room, refusal) in [
-        (7, 3, 4, None, 75, Refusal::PlaceTooShort),
-        (4096, 2048, 4096, None, 40971, Refusal::PlaceTooShort),
-        (7, 0, 4, None, ROOM, Refusal::Shape),
-        (7, 8, 4, None, ROOM, Refusal::Shape),
-        (2049, 2049, 4, None, ROOM, Refusal::Shape),
-        (2052, 3, 4, None, ROOM, Refusal::Shape),
-        (7, 3, 3, None, ROOM, Refusal::Shape),
-        (7, 3, 4098, None, ROOM, Refusal::Shape),
-        (7, 0, 4, None, 0, Refusal::Shape),
-        (7, 3, 4, Some(0), ROOM, Refusal::EdgeNotRising),
-        (7, 3, 4, Some(0), 0, Refusal::EdgeNotRising),
-        (4096, 2048, 4096, Some(2046), 40972, Refusal::EdgeNotRising),
-        (7, 0, 4, Some(0), ROOM, Refusal::Shape),
-        (7, 3, 3, Some(0), 0, Refusal::Shape),
+    for (len, n, numbers, last, room, number) in [
+        (7, 3, 4, None, 75, 5),
+        (4096, 2048, 4096, None, 40971, 5),
+        (7, 0, 4, None, ROOM, 6),
+        (7, 8, 4, None, ROOM, 6),
+        (2049, 2049, 4, None, ROOM, 6),
+        (2052, 3, 4, None, ROOM, 6),
+        (7, 3, 3, None, ROOM, 6),
+        (7, 3, 4098, None, ROOM, 6),
+        (7, 0, 4, None, 0, 6),
+        (7, 3, 4, Some(0), ROOM, 18),
+        (7, 3, 4, Some(0), 0, 18),
+        (4096, 2048, 4096, Some(2046), 40972, 18),
+        (7, 0, 4, Some(0), ROOM, 6),
+        (7, 3, 3, Some(0), 0, 6),
     ] {
-        rows.add(refuses_to_write(len, n, numbers, last, room, refusal));
+        rows.add(refuses_to_write(len, n, numbers, last, room, number));
     }
     rows
 }
 
 // So many bytes of a parcel of this shape, read into places of so many words and edge numbers, are answered so.
-fn reads(
-    shape: Shape,
-    size: usize,
-    words: usize,
-    numbers: usize,
-    answer: Result<(), Refusal>,
-) -> bool {
+fn reads(shape: Shape, size: usize, words: usize, numbers: usize, answer: Result<(), u8>) -> bool {
     let bytes = shape.laid();
     let parcel = bytes.get(..size);
     parcel.is_some_and(|parcel| reads_so(shape, parcel, words, numbers, answer))
@@ -203,7 +192,7 @@ fn reads_so(
     parcel: &[u8],
     words: usize,
     numbers: usize,
-    answer: Result<(), Refusal>,
+    answer: Result<(), u8>,
 ) -> bool {
     let mut memory = [UNTOUCHED_WORD; 4200];
     let mut edges = [UNTOUCHED_NUMBER; 4200];
@@ -214,16 +203,24 @@ fn reads_so(
     let read = parcel::read_parcel(parcel, memory_place, edge_place);
     match answer {
         Ok(()) => read == Ok(shape.counts()) && shape.held(parcel, &memory, &edges),
-        Err(refusal) => {
-            read == Err(Fault::nowhere(refusal))
+        Err(number) => {
+            is_refused(read, number, Place::Nowhere)
                 && Shape::new(0, 0, 0).held(parcel, &memory, &edges)
         }
     }
 }
 
-// A parcel of this shape is read, and written again it gives this size and the same bytes, or this fault and leaves its place as it
-// was.
-fn writes(shape: Shape, bytes: &[u8], answer: Result<usize, Fault>) -> bool {
+// Refused with this number of document 01, at this place.
+fn is_refused<T: Copy>(answer: Result<T, Fault>, number: u8, place: Place) -> bool {
+    match answer {
+        Err(fault) => u8::from(fault.refusal) == number && fault.place == place,
+        Ok(_) => false,
+    }
+}
+
+// A parcel of this shape is read, and written again it gives this size and the same bytes, or this number at this place and leaves its
+// place as it was.
+fn writes(shape: Shape, bytes: &[u8], answer: Result<usize, (u8, Place)>) -> bool {
     let mut memory = [UNTOUCHED_WORD; 4200];
     let mut edges = [UNTOUCHED_NUMBER; 4200];
     let mut out = [UNTOUCHED_BYTE; ROOM];
@@ -241,8 +238,11 @@ fn writes(shape: Shape, bytes: &[u8], answer: Result<usize, Fault>) -> bool {
         return false;
     };
     let written = parcel::write_parcel(words, counts.code, numbers, &mut out);
-    let front = if answer.is_ok() { parcel } else { &[] };
-    shape.held(parcel, &memory, &edges) && written == answer && begins(&out, front)
+    let wrote = match answer {
+        Ok(size) => written == Ok(size) && begins(&out, parcel),
+        Err((number, place)) => is_refused(written, number, place) && begins(&out, &[]),
+    };
+    shape.held(parcel, &memory, &edges) && wrote
 }
 
 // So many words with n of code, so many edge numbers and a place of so many bytes are refused, 18 at its edge, and the place stays as
@@ -253,13 +253,13 @@ fn refuses_to_write(
     numbers: usize,
     last: Option<usize>,
     room: usize,
-    refusal: Refusal,
+    number: u8,
 ) -> bool {
     let memory = [7u64; 4200];
     let edges = rising_but(last);
     let mut out = [UNTOUCHED_BYTE; ROOM];
-    let place = match (refusal, last) {
-        (Refusal::EdgeNotRising, Some(last)) => Place::Edge(last.wrapping_add(1)),
+    let place = match (number, last) {
+        (18, Some(last)) => Place::Edge(last.wrapping_add(1)),
         _ => Place::Nowhere,
     };
     let (Some(words), Some(numbers), Some(parcel)) = (
@@ -270,7 +270,7 @@ fn refuses_to_write(
         return false;
     };
     let written = parcel::write_parcel(words, n, numbers, parcel);
-    written == Err(Fault { refusal, place }) && begins(&out, &[])
+    is_refused(written, number, place) && begins(&out, &[])
 }
 
 // Edge k is from k to 0, and the one after `last` is the same as it.

@@ -1,7 +1,7 @@
 -- Laws of the first number that passes a test: that it is the lowest, what tells it, what it tells, and how chains over slices answer it.
-use Rattle.std.proofs.Common.{◌≡◌, refl, sym, ◌∙◌, ap, ℕ, ◌+◌, ◌<◌, ◌≤◌, Bool, true, false, cond, ◌||◌, List, length, take, get_or, arith}
+use Rattle.std.proofs.Common.{◌≡◌, refl, ◌∙◌, ap, ℕ, ◌+◌, ◌<◌, ◌≤◌, Bool, true, false, cond, ◌||◌, List, [], ◌∷◌, length, take, get_or, arith, subst}
 use Prim.Native.Nat.{zero, suc}
-use Rattle.std.specs.Prelude.{Some, None, position, ltb, eqb}
+use Rattle.std.specs.Prelude.{Some, None, find, position, ltb, eqb}
 use Rattle.std.specs.List.{position_or_len, range_with_len, slice_get, fold}
 use Rattle.std.proofs.lemmas.Bool.{ltb-true, ltb-false, lt-ltb, le-ltb}
 use Rattle.std.proofs.lemmas.List.{length-take-le}
@@ -11,11 +11,10 @@ use Rattle.std.proofs.lemmas.List.FromFn.{length-range_with_len, get_or-range_wi
 use Rattle.std.proofs.lemmas.List.Sums.{position_or_len_is}
 use Rattle.std.proofs.lemmas.Option.{slice_get-get_or, slice_get_past}
 use native.Mathlib.Nat.{add-zero}
-use native.Mathlib.Numerals.{add-one}
 use borrow.Author.Tests.{eq-eqb, ne_eqb}
-use Rattle.lists.specs.Search.{lowest, first, any}
-use Rattle.lists.proofs.Bools.{clash}
-use Rattle.lists.proofs.Search.{Clean, lowest_is, lowest_at, lowest_none, lowest_ext, any_none}
+use Rattle.lists.specs.Search.{lowest, first}
+use Rattle.lists.proofs.Bools.{clash, true_false}
+use Rattle.lists.proofs.Search.{Clean, clean_more, lowest_is, lowest_at, lowest_none, lowest_ext}
 
 place_is : (f : ℕ → Bool) (xs : List ℕ) → position_or_len f xs ≡ lowest (λ a. f (get_or xs a 0)) (length xs)
 place_is f xs =
@@ -91,16 +90,33 @@ positions p xs (suc n) h =
 pub first_position : (p : ℕ → Bool) (xs : List ℕ) (n : ℕ) → n ≤ length xs → position p (take n xs) ≡ first (λ a. p (get_or xs a 0)) n
 first_position p xs n h = rw (first_lowest (λ a. p (get_or xs a 0)) n, positions p xs n h, length-take-le n xs h)
 
--- a fold over the numbers tells whether one passes: those below a are known, and j from a on are asked
-fold_any : (f : ℕ → Bool) (a j : ℕ) {found : Bool} → found ≡ any f a → fold (λ found k. f k || found) found (range_with_len a j) ≡ any f (a + j)
-unfolding any
-fold_any f a zero e = rw add-zero e
-fold_any f a (suc j) e =
-    let more : any f (a + 1) ≡ f a || any f a = ap (any f) (add-one a) in
-    fold_any f (a + 1) j (ap (λ (b : Bool). f a || b) e ∙ sym more) ∙ ap (any f) (omega arith)
+-- a fold over a list tells whether one of it passes
+folded : (f : ℕ → Bool) (xs : List ℕ) (found : Bool) → fold (λ found k. f k || found) found xs ≡ false → (found ≡ false) × (None ≡ find f xs)
+folded f [] found e = (e, refl)
+folded f (x ∷ xs) found e = go (f x) refl (folded f xs (f x || found) e)
+  where
+    go : (b : Bool) → f x ≡ b → ((f x || found) ≡ false) × (None ≡ find f xs) → (found ≡ false) × (None ≡ find f (x ∷ xs))
+    go true t rest = absurd (true_false (rw t) rest.0)
+    go false t rest = (rw t at rest.0, rw t rest.1)
 
-pub folded_none : (f : ℕ → Bool) (n : ℕ) → fold (λ found k. f k || found) false (range_with_len 0 n) ≡ false → None ≡ first f n
-unfolding any
-folded_none f n e =
-    let all : 0 + n ≡ n = omega arith in
-    first_none f n (any_none f n (sym (fold_any f 0 n refl ∙ ap (any f) all) ∙ e))
+pub folded_none : (f : ℕ → Bool) (a n : ℕ) → fold (λ found k. f k || found) false (range_with_len a n) ≡ false → None ≡ find f (range_with_len a n)
+folded_none f a n e = (folded f (range_with_len a n) false e).1
+
+-- a search a block at a time, of n numbers from a on, where none below a passes: the block has the first, or none below its end passes
+pub found_in : (f : ℕ → Bool) (a n m i : ℕ) → Clean f a → a + n ≤ m → Some i ≡ find f (range_with_len a n) → Some i ≡ first f m
+found_in f a zero m i c l e = clash (cc)
+found_in f a (suc n) m i c l e = go (λ d q. found_in f (a + 1) n m i d (omega arith) q) (f a) refl
+  where
+    go : (Clean f (a + 1) → Some i ≡ find f (range_with_len (a + 1) n) → Some i ≡ first f m) → (b : Bool) → f a ≡ b → Some i ≡ first f m
+    go rest true t = (rw t at e) ∙ first_at f m a (omega arith) c t
+    go rest false t = rest (clean_more f a c t) (rw t at e)
+
+pub clean_in : (f : ℕ → Bool) (a n : ℕ) → Clean f a → None ≡ find f (range_with_len a n) → Clean f (a + n)
+clean_in f a zero c e = rw add-zero c
+clean_in f a (suc n) c e = go (λ d q. clean_in f (a + 1) n d q) (f a) refl
+  where
+    go : (Clean f (a + 1) → None ≡ find f (range_with_len (a + 1) n) → Clean f (a + 1 + n)) → (b : Bool) → f a ≡ b → Clean f (a + suc n)
+    go rest true t = let none = rw t at e in clash (cc)
+    go rest false t =
+        let next : a + 1 + n ≡ a + suc n = omega arith in
+        subst (Clean f) next (rest (clean_more f a c t) (rw t at e))

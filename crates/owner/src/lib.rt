@@ -2,7 +2,7 @@
 // them. C needs a name for each, however alike two of them are, and lends each place by itself: so the lists of parameters are long.
 #![tactic(auto)]
 
-ghost use Rattle.std.specs.Prelude.{◌≡◌, cond};
+ghost use Rattle.std.specs.Prelude.{◌≡◌, ◌≤◌, ◌||◌, cond, length, ltb};
 ghost use Rattle.report.specs.Reports.{report_of, parcel_report};
 ghost use Rattle.capi.specs.States.{technique_of};
 ghost use Rattle.owner.specs.Reports.{figure_numbers, total_numbers, totals_in, are_totals, added_number, added_place, ReportCall, AddCall};
@@ -23,6 +23,9 @@ pub fn pg_report(
 ) -> u32
     ensures { ReportCall (report_of (technique_of technique) memory.now n edges.now) figures.old place.old result figures.new place.new }
 {
+    if are_short(figures.len(), 16, place.len()) {
+        return too_short();
+    }
     let made = report::report(technique_of(technique), memory, n, edges);
     answer_report(made, figures, place)
 }
@@ -30,6 +33,9 @@ pub fn pg_report(
 pub fn pg_report_parcel(technique: u8, parcel: &[u8], figures: &mut [u64], place: &mut [u64]) -> u32
     ensures { ReportCall (parcel_report (technique_of technique) parcel.now) figures.old place.old result figures.new place.new }
 {
+    if are_short(figures.len(), 16, place.len()) {
+        return too_short();
+    }
     let made = report::report_parcel(technique_of(technique), parcel);
     answer_report(made, figures, place)
 }
@@ -44,6 +50,9 @@ pub fn pg_add_report(
 ) -> u32
     ensures { AddCall (report_of (technique_of technique) memory.now n edges.now) sums.old place.old result sums.new place.new }
 {
+    if are_short(sums.len(), 6, place.len()) {
+        return too_short();
+    }
     let made = report::report(technique_of(technique), memory, n, edges);
     answer_addition(made, sums, place)
 }
@@ -51,18 +60,27 @@ pub fn pg_add_report(
 pub fn pg_add_parcel(technique: u8, parcel: &[u8], sums: &mut [u64], place: &mut [u64]) -> u32
     ensures { AddCall (parcel_report (technique_of technique) parcel.now) sums.old place.old result sums.new place.new }
 {
+    if are_short(sums.len(), 6, place.len()) {
+        return too_short();
+    }
     let made = report::report_parcel(technique_of(technique), parcel);
     answer_addition(made, sums, place)
+}
+
+// Whether there is too little room for so many numbers, or for the two of a refusal's place. Asked first, so that a call that has too
+// little makes no report.
+fn are_short(have: usize, needed: usize, place: usize) -> bool
+    ensures { result ≡ (ltb have needed || ltb place 2) }
+{
+    have < needed || place < 2
 }
 
 // The answer to a report, its figures and its place put down.
 // No plainer by one function with capi's `put_written`: each answer would have to be mapped to an array of its own length first.
 fn answer_report(report: Result<Figures, Fault>, figures: &mut [u64], place: &mut [u64]) -> u32
+    requires { (16 ≤ length figures.old) × (2 ≤ length place.old) }
     ensures { ReportCall report figures.old place.old result figures.new place.new }
 {
-    if figures.len() < 16 || place.len() < 2 {
-        return too_short();
-    }
     if let Ok(found) = report {
         put(figures, figure_numbers(found));
     }
@@ -71,14 +89,10 @@ fn answer_report(report: Result<Figures, Fault>, figures: &mut [u64], place: &mu
 
 // The answer to a report that is added to totals, the new totals and the place put down.
 fn answer_addition(report: Result<Figures, Fault>, sums: &mut [u64], place: &mut [u64]) -> u32
+    requires { (6 ≤ length sums.old) × (2 ≤ length place.old) }
     ensures { AddCall report sums.old place.old result sums.new place.new }
 {
-    if place.len() < 2 {
-        return too_short();
-    }
-    let Some(six) = sums.first_chunk_mut::<6>() else {
-        return too_short();
-    };
+    let six = sums.first_chunk_mut::<6>().unwrap();
     let answer = add_in(report, six);
     put_place(place, added_place(answer));
     added_number(answer)

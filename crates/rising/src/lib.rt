@@ -2,7 +2,7 @@
 // numbers of 16 bits and, in the second parcel edition (K6), of 32.
 #![tactic(auto)]
 
-ghost use Rattle.std.specs.Prelude.{◌≡◌, ◌+◌, ◌*◌, ◌<◌, ◌^◌, ◌||◌, ℕ, false, List, map, fold, ltb, refl};
+ghost use Rattle.std.specs.Prelude.{◌≡◌, ◌+◌, ◌-◌, ◌*◌, ◌<◌, ◌≤◌, ◌^◌, ◌||◌, ℕ, false, List, map, fold, find, ltb, refl};
 ghost use Rattle.std.proofs.Common.{sym};
 ghost use Rattle.std.proofs.lemmas.List.{map-id};
 ghost use Rattle.std.specs.List.{range_with_len};
@@ -94,39 +94,57 @@ impl EdgeNumber for u32 {
     }
 }
 
-// Number 18: the first edge that is not above the one before it.
-#[tactic(auto, using(lists::proofs::First::folded_none))]
+// Number 18: the first edge that is not above the one before it; edge 0 has none before it. They are asked a block at a time, so that one
+// that falls early is found early.
+#[tactic(auto, using(lists::proofs::First::first_none))]
 pub fn first_not_rising<E: EdgeNumber>(edges: &[E]) -> Option<usize>
     ensures { result ≡ first (not_rising (E.numbers edges.now)) (edge_count (E.numbers edges.now)) }
 {
-    if some_not_rising(edges) {
-        return find_not_rising(edges);
+    let count = count(edges);
+    for block in 0..count.saturating_sub(1).div_ceil(256) {
+        let from = 1 + 256 * block;
+        if let Some(edge) = first_in_block(edges, from, count.min(from + 256)) {
+            return Some(edge);
+        }
+    }
+    None
+}
+
+// The first of a block, edges from `from` to below `to`: sought only where there is one, so that two reads of an edge cost nothing.
+#[tactic(auto, using(lists::proofs::First::folded_none))]
+fn first_in_block<E: EdgeNumber>(edges: &[E], from: usize, to: usize) -> Option<usize>
+    requires { (1 ≤ from) × (from ≤ to) × (to ≤ edge_count (E.numbers edges.now)) }
+    ensures { result ≡ find (not_rising (E.numbers edges.now)) (range_with_len from (to - from)) }
+{
+    if some_in_block(edges, from, to) {
+        return find_in_block(edges, from, to);
     }
     None
 }
 
 // Whether there is one. No edge ends the fold before the last, so that the compiler can take several edges at a time.
-fn some_not_rising<E: EdgeNumber>(edges: &[E]) -> bool
-    ensures { result ≡ fold (λ found k. not_rising (E.numbers edges.now) k || found) false (range_with_len 0 (edge_count (E.numbers edges.now))) }
+fn some_in_block<E: EdgeNumber>(edges: &[E], from: usize, to: usize) -> bool
+    requires { (1 ≤ from) × (from ≤ to) × (to ≤ edge_count (E.numbers edges.now)) }
+    ensures { result ≡ fold (λ found k. not_rising (E.numbers edges.now) k || found) false (range_with_len from (to - from)) }
 {
-    (0..count(edges)).fold(false, |found, k| falls_at(edges, k) | found)
+    (from..to).fold(false, |found, k| falls_at(edges, k) | found)
 }
 
-// Which one, where there is one: only then, so that two reads of an edge cost nothing.
-#[tactic(auto, unfolding(lists::specs::Search::first))]
-fn find_not_rising<E: EdgeNumber>(edges: &[E]) -> Option<usize>
-    ensures { result ≡ first (not_rising (E.numbers edges.now)) (edge_count (E.numbers edges.now)) }
+// Which one.
+fn find_in_block<E: EdgeNumber>(edges: &[E], from: usize, to: usize) -> Option<usize>
+    requires { (1 ≤ from) × (from ≤ to) × (to ≤ edge_count (E.numbers edges.now)) }
+    ensures { result ≡ find (not_rising (E.numbers edges.now)) (range_with_len from (to - from)) }
 {
-    (0..count(edges)).find(|k| falls_at(edges, *k))
+    (from..to).find(|k| falls_at(edges, *k))
 }
 
 // Whether edge k is not above the one before it.
 #[tactic(auto, using(crate::proofs::Rising::rank_falls))]
 fn falls_at<E: EdgeNumber>(edges: &[E], k: usize) -> bool
-    requires { k < edge_count (E.numbers edges.now) }
+    requires { (1 ≤ k) × (k < edge_count (E.numbers edges.now)) }
     ensures { result ≡ not_rising (E.numbers edges.now) k }
 {
-    0 < k && !E::rises(rank_at(edges, k - 1), rank_at(edges, k))
+    !E::rises(rank_at(edges, k - 1), rank_at(edges, k))
 }
 
 // How many edges there are.
