@@ -26,8 +26,7 @@ pub fn pg_decode(word: u64, place: &mut [u32]) -> u32
     0
 }
 
-// An instruction's opcode, a, b, c and w; an illegal word has opcode 255 and zeros. The opcode is read off the word: by way of its kind
-// the call takes a third longer (docs/PERFORMANCE.md).
+// An instruction's opcode, a, b, c and w; an illegal word has opcode 255 and zeros.
 #[tactic(auto, using(crate::proofs::Words::legal_numbers, crate::proofs::Words::illegal_numbers))]
 fn numbers_of(word: u64) -> [u32; 5]
     ensures { result ≡ numbers_of (fields_of (decode_of word)) }

@@ -5,10 +5,10 @@ use mathlib.Core.Bool.{◌||◌}
 use mathlib.Core.List.{List, [], ◌∷◌}
 use Prim.Native.Nat.{ℕ, zero, suc, ◌+◌, ◌-◌, ◌*◌, ◌/◌, ◌%◌, ◌≤◌, ◌<◌}
 use native.Mathlib.Omega.{arith}
-use native.Mathlib.Nat.{add-zero, zero-mul, suc-mul, add-mul, mul_assoc, add_comm}
+use native.Mathlib.Nat.{zero-mul, suc-mul, add-mul, mul_assoc, add_comm}
 use lib.Dec.{leb}
-use lib.ListN.{length, get_or, set, take, drop, length-set, drop_of_length-le}
-use lib.Seq.{drop-drop, drop-cons, get_or-drop, sets}
+use lib.ListN.{length, get_or, set, take, drop}
+use lib.Seq.{drop-drop, get_or-drop, sets}
 use Rattle.std.proofs.lemmas.List.{take_rest}
 use Rattle.parcel.specs.Bytes.{number_of, bytes_of, numbers_of, all_bytes_of}
 use Rattle.parcel.proofs.Numbers.{number_halves, number_byte}
@@ -26,28 +26,6 @@ number_at w (suc k) s zero l = ap (λ (n : ℕ). number_of w (drop n s)) (sym (z
 number_at w (suc k) s (suc i) l =
     number_at w k (drop w s) i (omega arith)
     ∙ ap (number_of w) (drop-drop (i * w) w s ∙ ap (λ (n : ℕ). drop n s) (add_comm w (i * w) ∙ sym (suc-mul i w)))
-
--- ---- bytes as they are: what is still to be stored, from i on, makes the whole
-
-pub record Copying (s : List ℕ) (at : ℕ) (t₀ t : List ℕ) (i : ℕ) : Type 0 where
-  pub same : sets t₀ at s ≡ sets t (at + i) (drop i s)
-  pub long : length t ≡ length t₀
-
-pub copying_starts : (s : List ℕ) (at : ℕ) (t : List ℕ) → Copying s at t t 0
-copying_starts s at t = record { same = ap (λ (n : ℕ). sets t n s) (sym (add-zero at)); long = refl }
-
-pub copying_goes_on : {s : List ℕ} {at : ℕ} {t₀ t t' : List ℕ} {i : ℕ} → Copying s at t₀ t i → i < length s → t' ≡ set t (at + i) (get_or s i 0)
-    → Copying s at t₀ t' (i + 1)
-copying_goes_on {s} {at} {t₀} {t} {t'} {i} inv l e =
-    let next : suc (at + i) ≡ at + (i + 1) = omega arith in
-    let one : suc i ≡ i + 1 = omega arith in
-    record {
-      same = inv.same ∙ ap (λ (b : List ℕ). sets t (at + i) b) (drop-cons s i 0 l) ∙ (λ j. sets (sym e j) (next j) (drop (one j) s));
-      long = ap length e ∙ length-set t (at + i) (get_or s i 0) ∙ inv.long;
-    }
-
-pub copying_ends : {s : List ℕ} {at : ℕ} {t₀ t : List ℕ} {i : ℕ} → Copying s at t₀ t i → length s ≤ i → t ≡ sets t₀ at s
-copying_ends {s} {at} {t₀} {t} {i} inv l = sym (inv.same ∙ ap (λ (b : List ℕ). sets t (at + i) b) (drop_of_length-le s l))
 
 -- ---- the loop: i of the k numbers of w bytes in s are stored, v bytes each
 

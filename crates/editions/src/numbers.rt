@@ -1,21 +1,46 @@
 // Numbers in bytes, low byte first, put as numbers of another width.
 // `to` and `start`, and `s` and `at` of `put_half`, stay apart: a part of a `&mut` slice that is lent on would make a contract speak of
 // two places, and as parameters each clause speaks of the whole.
-ghost use Rattle.std.specs.Prelude.{◌≡◌, ◌⊎◌, ◌||◌, ◌+◌, ◌*◌, ◌≤◌, ◌<◌, leb, length, drop};
+ghost use Rattle.std.specs.Prelude.{◌≡◌, ◌⊎◌, ◌||◌, ◌+◌, ◌*◌, ◌≤◌, ◌<◌, leb, length, take, drop};
 ghost use Rattle.std.proofs.lemmas.List.Edits.{sets};
 ghost use Rattle.lists.specs.Search.{first};
 ghost use Rattle.parcel.specs.Bytes.{number_of, bytes_of, numbers_of, all_bytes_of};
 ghost use Rattle.editions.specs.Converters.{is_wide};
+ghost use Rattle.editions.specs.Inside.{Copied};
 
-// The bytes, as they are, from start on. A loop, since for `copy_from_slice` the library would ask C for `memmove`.
-#[tactic(auto, using(crate::proofs::Converting::copying_starts, crate::proofs::Converting::copying_goes_on, crate::proofs::Converting::copying_ends))]
+// The bytes, as they are, from start on: sixteen at a time while there are as many, then four, then one. Loops, since for one
+// `copy_from_slice` of them all the library would ask C for `memmove` (docs/PERFORMANCE.md, also of other sizes).
 pub(crate) fn copy(s: &[u8], to: &mut [u8], start: usize)
     requires { start + length s.now ≤ length to.old }
     ensures { to.new ≡ sets to.old start s.now }
 {
-    for i in 0..s.len() {
-        to[start + i] = s[i];
+    let i = copy_parts::<16>(s, 0, to, start);
+    let k = copy_parts::<4>(s, i, to, start);
+    copy_parts::<1>(s, k, to, start);
+}
+
+// As many parts of N bytes as there are from i on; and where they end.
+#[tactic(auto, using(crate::proofs::Copying::copied_none, crate::proofs::Copying::part_within, crate::proofs::Copying::parts_left))]
+fn copy_parts<const N: usize>(s: &[u8], i: usize, to: &mut [u8], start: usize) -> usize
+    requires { (1 ≤ N) × (i ≤ length s.now) × (start + length s.now ≤ length to.old) }
+    ensures copied { Copied s.now start i to.old to.new result }
+    ensures few { (i ≤ result) × (result ≤ length s.now) × (length s.now < result + N) }
+{
+    let parts = (s.len() - i) / N;
+    for k in 0..parts {
+        copy_part::<N>(s, i + k * N, to, start);
     }
+    i + parts * N
+}
+
+// The N bytes from i on. By way of an array: between two slices the compiler asks each time whether they overlap.
+#[tactic(auto, using(lists::proofs::Places::put_part))]
+fn copy_part<const N: usize>(s: &[u8], i: usize, to: &mut [u8], start: usize)
+    requires { (i + N ≤ length s.now) × (start + length s.now ≤ length to.old) }
+    ensures { to.new ≡ sets to.old (start + i) (take N (drop i s.now)) }
+{
+    let part: [u8; N] = s[i..i + N].try_into().unwrap();
+    to[start + i..start + i + N].copy_from_slice(&part);
 }
 
 // The first edges, two numbers of W bytes each, as numbers of V: the low two bytes of each, and zeros. An edge is read whole before it

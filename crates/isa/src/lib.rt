@@ -133,12 +133,10 @@ pub fn encode_fields(opcode: u8, a: u8, b: u8, c: u8, w: u32) -> u64
 }
 
 // Whether a word is no exact form, without decoding the rest of it.
-#[tactic(auto, using(crate::proofs::ByKind::illegal_exact))]
 pub fn is_illegal(word: u64) -> bool
     ensures { result ≡ is_illegal (decode_of word) }
 {
-    let f = Fields::of_word(word);
-    !f.fits(f.kind)
+    matches!(kind_of_word(word), Kind::Unknown)
 }
 
 // Whether a word is an instruction of this kind, without decoding the rest of it.
