@@ -1,5 +1,5 @@
--- What only the private functions of this crate promise each other: a parcel put as one of the other edition, and edge numbers cut to
--- 16 bits. An address above 65,535 is outside code, and 65,535 is outside code too.
+-- What only the private functions of this crate promise each other: a parcel put as one of the other edition, bytes put as they are, and
+-- edge numbers cut to 16 bits. An address above 65,535 is outside code, and 65,535 is outside code too.
 use Rattle.std.specs.Prelude.{ℕ, ◌+◌, ◌-◌, ◌≡◌, cond, List, [], ◌∷◌, length, take, drop, ltb, Ok, Err}
 use Rattle.std.proofs.lemmas.List.Edits.{sets}
 use Rattle.lists.specs.Places.{shorter}
@@ -15,7 +15,7 @@ pub record ConvertedSo (w v : ℕ) (s p : List ℕ) (answer : Written) (p' : Lis
       ≡ cond (shorter p (length (bytes_for v (read_of w s)))) (Err (fault Refusal.PlaceTooShort Place.Nowhere)) (Ok (length (bytes_for v (read_of w s))))
   pub bytes : p' ≡ after_write answer (bytes_for v (read_of w s)) p
 
--- the bytes of s from the i-th to the one before the k-th, as they are, in t at the places that they have in s, from at on
+-- t' is t with the bytes of s from the i-th to the one before the k-th put where they have their places in s, counted from at on
 pub record Copied (s : List ℕ) (at i : ℕ) (t t' : List ℕ) (k : ℕ) : Type 0 where
   pub bytes : t' ≡ sets t (at + i) (take (k - i) (drop i s))
 
