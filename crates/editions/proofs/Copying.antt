@@ -11,12 +11,9 @@ use Rattle.std.proofs.lemmas.List.{length-take-le, length-drop}
 use Rattle.lists.proofs.Places.{sets_append}
 use Rattle.editions.specs.Inside.{Copied}
 
-part_up : (n : ℕ) {i k : ℕ} → i < k → i * n + n ≤ k * n
-part_up n {i} {k} l = let s : i * n + n ≡ suc i * n = sym (suc-mul i n) in omega (arith, mul-le-mul_right n l)
-
 -- one more part of n bytes is within, where it is one of those that there are
 pub part_within : (k x n : ℕ) → k < x / n → k * n + n ≤ x
-part_within k x n l = omega (arith, part_up n l, div-mul-le_self x n)
+part_within k x n l = let s : k * n + n ≡ suc k * n = sym (suc-mul k n) in omega (arith, mul-le-mul_right n l, div-mul-le_self x n)
 
 -- and after them fewer than n are left
 pub parts_left : (x n : ℕ) → 1 ≤ n → (x / n * n ≤ x) × (x < x / n * n + n)
